@@ -1,0 +1,10 @@
+-- The definitions, in reading order: Lists, Refusals, Syntax, Chase, Rewriting, Renaming, Union, Evaluation.
+pub mod Lists
+pub mod Refusals
+pub mod Syntax
+pub mod Chase
+pub mod Rewriting
+pub mod Renaming
+pub mod Union
+pub mod Evaluation
+pub mod Laws
