@@ -1,3 +1,24 @@
 -- The laws of the definitions: what each means, and that both readers agree.
 pub mod Lists
+pub mod Lookup
+pub mod Refusals
 pub mod Syntax
+pub mod Unbound
+pub mod Fresh
+pub mod Unifier
+pub mod Steps
+pub mod Variables
+pub mod Equivalence
+pub mod Merging
+pub mod RenamingDecided
+pub mod WrittenStep
+pub mod UnionTests
+pub mod Union
+pub mod Matches
+pub mod Answers
+pub mod Rules
+pub mod Soundness
+pub mod Depth
+pub mod Birth
+pub mod Budget
+pub mod Completeness

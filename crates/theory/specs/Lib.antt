@@ -8,3 +8,4 @@ pub mod Renaming
 pub mod Union
 pub mod Evaluation
 pub mod Laws
+pub mod Agreement

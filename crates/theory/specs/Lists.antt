@@ -8,7 +8,6 @@ use lib.Dec.{eqb}
 use lib.ListN.{getElem?}
 
 infix 50 _∈_
-
 -- a place at which x stands in the list
 abbrev pub _∈_ {ℓ} : {X : Type ℓ} → X → List X → Type ℓ
 x ∈ xs = List·Memᴰ x xs

@@ -83,9 +83,10 @@ module _ {X : Type 0} where
   pub mem-toList : (o : Option X) {y : X} → (y ∈ toList o) ↔ (o ≡ some y)
   unfolding toList
   mem-toList none = (λ m. absurd (List·Memᴰ·not-nil m), λ e. absurd (none≢some e))
-  mem-toList (some x) =
-      (λ m. elim (List·Memᴰ·cases-cons m) [ inl e ↦ ap some (sym e) | inr n ↦ absurd (List·Memᴰ·not-nil n) ],
-      λ e. List·Memᴰ·head (sym (some-inj e)))
+  mem-toList (some x) = (
+    λ m. elim (List·Memᴰ·cases-cons m) [ inl e ↦ ap some (sym e) | inr n ↦ absurd (List·Memᴰ·not-nil n) ],
+    λ e. List·Memᴰ·head (sym (some-inj e)),
+  )
 
 pub andThen-some : {X Y : Type 0} (o : Option X) {f : X → Option Y} {y : Y} → andThen o f ≡ some y → (x : X) × (o ≡ some x) × (f x ≡ some y)
 andThen-some none e = absurd (none≢some e)
@@ -110,8 +111,9 @@ module _ {X : Type 0} where
   any-found p [] t = absurd t
   any-found p (x ∷ xs) t =
       elim (T-or (p x) (any p xs) .0 t) [
-      inl h ↦ (x, here, h)
-      | inr h ↦ (let r = any-found p xs h in (r .0, List·Memᴰ·tail (r .1), r .2)) ]
+        | inl h ↦ (x, here, h)
+        | inr h ↦ (let r = any-found p xs h in (r .0, List·Memᴰ·tail (r .1), r .2))
+      ]
 
   pub any-of : (p : X → Bool) {xs : List X} {x : X} → x ∈ xs → T (p x) → T (any p xs)
   unfolding any
@@ -124,9 +126,10 @@ module _ {X : Type 0} where
   pub all-iff : (p : X → Bool) (xs : List X) → T (all p xs) ↔ ((x : X) → x ∈ xs → T (p x))
   unfolding all
   all-iff p [] = (λ t x m. absurd (List·Memᴰ·not-nil m), λ f. tt)
-  all-iff p (x ∷ xs) =
-      (λ t. let s = T-and (p x) (all p xs) .0 t in forall-cons (s .0) (all-iff p xs .0 (s .1)),
-      λ f. T-and (p x) (all p xs) .1 (f x here, all-iff p xs .1 (λ y m. f y (List·Memᴰ·tail m))))
+  all-iff p (x ∷ xs) = (
+    λ t. let s = T-and (p x) (all p xs) .0 t in forall-cons (s .0) (all-iff p xs .0 (s .1)),
+    λ f. T-and (p x) (all p xs) .1 (f x here, all-iff p xs .1 (λ y m. f y (List·Memᴰ·tail m))),
+  )
 
   pub mem-without : (p : X → Bool) (xs : List X) {y : X} → y ∈ without p xs → (y ∈ xs) × (¬ T (p y))
   unfolding without
@@ -140,8 +143,9 @@ module _ {X : Type 0} where
       go true e below n = later (below n)
       go false e below n =
           elim (List·Memᴰ·cases-cons n) [
-          inl d ↦ (List·Memᴰ·head d, λ t. subst T (ap p d ∙ e) t)
-          | inr k ↦ later (below k) ]
+            | inl d ↦ (List·Memᴰ·head d, λ t. subst T (ap p d ∙ e) t)
+            | inr k ↦ later (below k)
+          ]
 
   pub without-mem : (p : X → Bool) {xs : List X} {y : X} → y ∈ xs → ¬ T (p y) → y ∈ without p xs
   unfolding without
@@ -155,8 +159,9 @@ module _ {X : Type 0} where
   without-unrepeated p [] u = tt
   without-unrepeated p (x ∷ xs) u =
       elim (p x) as (λ b. Unrepeated (pick b (without p xs) (x ∷ without p xs))) [
-      true ↦ without-unrepeated p xs (u .1)
-      | false ↦ (λ m. u .0 (mem-without p xs m .0), without-unrepeated p xs (u .1)) ]
+        | true ↦ without-unrepeated p xs (u .1)
+        | false ↦ (λ m. u .0 (mem-without p xs m .0), without-unrepeated p xs (u .1))
+      ]
 
   -- ---- each element once, where the test decides equality
   module _ (same : X → X → Bool) (same-iff : (x y : X) → T (same x y) ↔ (x ≡ y)) where
@@ -171,26 +176,29 @@ module _ {X : Type 0} where
     mem-once (List·Memᴰ·head e) = List·Memᴰ·head e
     mem-once {y = y} (List·Memᴰ·tail {x = x} m) =
         elim (either (same x y)) [
-        inl t ↦ List·Memᴰ·head (sym (same-iff x y .0 t))
-        | inr f ↦ List·Memᴰ·tail (without-mem (same x) (mem-once m) f) ]
+          | inl t ↦ List·Memᴰ·head (sym (same-iff x y .0 t))
+          | inr f ↦ List·Memᴰ·tail (without-mem (same x) (mem-once m) f)
+        ]
 
     pub once-unrepeated : (xs : List X) → Unrepeated (once same xs)
     unfolding once
     once-unrepeated [] = tt
-    once-unrepeated (x ∷ xs) =
-        (λ m. mem-without (same x) (once same xs) m .1 (same-iff x x .1 refl),
-        without-unrepeated (same x) (once same xs) (once-unrepeated xs))
+    once-unrepeated (x ∷ xs) = (
+      λ m. mem-without (same x) (once same xs) m .1 (same-iff x x .1 refl),
+      without-unrepeated (same x) (once same xs) (once-unrepeated xs),
+    )
 
     pub pairwise-iff : (xs ys : List X) → T (pairwise same xs ys) ↔ (xs ≡ ys)
     unfolding pairwise
     pairwise-iff [] [] = (λ t. refl, λ e. tt)
     pairwise-iff [] (y ∷ ys) = (λ t. absurd t, λ e. (let z : _≡_ {A = ℕ} 0 1 = cc in omega arith))
     pairwise-iff (x ∷ xs) [] = (λ t. absurd t, λ e. (let z : _≡_ {A = ℕ} 0 1 = cc in omega arith))
-    pairwise-iff (x ∷ xs) (y ∷ ys) =
-        (λ t. let s = T-and (same x y) (pairwise same xs ys) .0 t in
-        (let d : x ≡ y = same-iff x y .0 (s .0) in let f : xs ≡ ys = pairwise-iff xs ys .0 (s .1) in cc),
-        λ e. T-and (same x y) (pairwise same xs ys) .1
-        (same-iff x y .1 (cc), pairwise-iff xs ys .1 (cc)))
+    pairwise-iff (x ∷ xs) (y ∷ ys) = (
+      λ t. let s = T-and (same x y) (pairwise same xs ys) .0 t in
+          (let d : x ≡ y = same-iff x y .0 (s .0) in let f : xs ≡ ys = pairwise-iff xs ys .0 (s .1) in cc),
+      λ e. T-and (same x y) (pairwise same xs ys) .1
+          (same-iff x y .1 (cc), pairwise-iff xs ys .1 (cc)),
+    )
 
   -- ---- places
 
@@ -228,8 +236,9 @@ module _ {X Y : Type 0} (f : X → List Y) where
   flatMap-found [] m = absurd (List·Memᴰ·not-nil m)
   flatMap-found (x ∷ xs) m =
       elim (List·Memᴰ·append-cases (f x) m) [
-      inl h ↦ (x, here, h)
-      | inr h ↦ (let r = flatMap-found xs h in (r .0, List·Memᴰ·tail (r .1), r .2)) ]
+        | inl h ↦ (x, here, h)
+        | inr h ↦ (let r = flatMap-found xs h in (r .0, List·Memᴰ·tail (r .1), r .2))
+      ]
 
   pub flatMap-of : {xs : List X} {x : X} {y : Y} → x ∈ xs → y ∈ f x → y ∈ flatMap f xs
   unfolding flatMap

@@ -57,9 +57,10 @@ mapAtom-id (role P x y) = refl
 
 pub sameAtom-iff : (a b : Atom Term) → T (sameAtom a b) ↔ (a ≡ b)
 unfolding sameAtom
-sameAtom-iff a b =
-    (λ t. sym (mapAtom-id a) ∙ onAtoms-map (λ s. s) a b .0 (onAtoms-fwd sameTerm (λ s t. s ≡ t) (λ s t. sameTerm-iff s t .0) a b t),
-    λ e. onAtoms-bwd sameTerm (λ s t. s ≡ t) (λ s t. sameTerm-iff s t .1) a b (onAtoms-map (λ s. s) a b .1 (mapAtom-id a ∙ e)))
+sameAtom-iff a b = (
+  λ t. sym (mapAtom-id a) ∙ onAtoms-map (λ s. s) a b .0 (onAtoms-fwd sameTerm (λ s t. s ≡ t) (λ s t. sameTerm-iff s t .0) a b t),
+  λ e. onAtoms-bwd sameTerm (λ s t. s ≡ t) (λ s t. sameTerm-iff s t .1) a b (onAtoms-map (λ s. s) a b .1 (mapAtom-id a ∙ e)),
+)
 
 -- ---- maps
 
@@ -83,15 +84,17 @@ module _ {X Y : Type 0} where
   args-map f (concept A x) m = elim (List·Memᴰ·cases-cons m) [ inl e ↦ (x, here, sym e) | inr n ↦ absurd (List·Memᴰ·not-nil n) ]
   args-map f (role P x x′) m =
       elim (List·Memᴰ·cases-cons m) [
-      inl e ↦ (x, here, sym e)
-      | inr n ↦ elim (List·Memᴰ·cases-cons n) [ inl e ↦ (x′, List·Memᴰ·tail here, sym e) | inr k ↦ absurd (List·Memᴰ·not-nil k) ] ]
+        | inl e ↦ (x, here, sym e)
+        | inr n ↦ elim (List·Memᴰ·cases-cons n) [ inl e ↦ (x′, List·Memᴰ·tail here, sym e) | inr k ↦ absurd (List·Memᴰ·not-nil k) ]
+      ]
 
   pub map-args : (f : X → Y) (a : Atom X) {x : X} → x ∈ args a → f x ∈ args (mapAtom f a)
   map-args f (concept A y) m = elim (List·Memᴰ·cases-cons m) [ inl e ↦ List·Memᴰ·head (ap f e) | inr n ↦ absurd (List·Memᴰ·not-nil n) ]
   map-args f (role P y y′) m =
       elim (List·Memᴰ·cases-cons m) [
-      inl e ↦ List·Memᴰ·head (ap f e)
-      | inr n ↦ elim (List·Memᴰ·cases-cons n) [ inl e ↦ List·Memᴰ·tail (List·Memᴰ·head (ap f e)) | inr k ↦ absurd (List·Memᴰ·not-nil k) ] ]
+        | inl e ↦ List·Memᴰ·head (ap f e)
+        | inr n ↦ elim (List·Memᴰ·cases-cons n) [ inl e ↦ List·Memᴰ·tail (List·Memᴰ·head (ap f e)) | inr k ↦ absurd (List·Memᴰ·not-nil k) ]
+      ]
 
 -- ---- what stands where
 
@@ -100,8 +103,9 @@ module _ {X : Type 0} where
   places-mem [] m = absurd (List·Memᴰ·not-nil m)
   places-mem (a ∷ rest) m =
       elim (List·Memᴰ·append-cases (args a) m) [
-      inl h ↦ (a, here, h)
-      | inr h ↦ (let r = places-mem rest h in (r .0, List·Memᴰ·tail (r .1), r .2)) ]
+        | inl h ↦ (a, here, h)
+        | inr h ↦ (let r = places-mem rest h in (r .0, List·Memᴰ·tail (r .1), r .2))
+      ]
 
   pub mem-places : {as′ : List (Atom X)} {a : Atom X} {x : X} → a ∈ as′ → x ∈ args a → x ∈ places as′
   mem-places {x = x} (List·Memᴰ·head {xs = rest} e) m = Memᴰ·append-left (places rest) (subst (λ b. x ∈ args b) e m)

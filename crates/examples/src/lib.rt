@@ -1,0 +1,1 @@
+// No code: this crate computes worked examples with the definitions of the theory crate. They are in specs/.

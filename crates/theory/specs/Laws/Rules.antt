@@ -1,0 +1,321 @@
+-- All that the theorem uses of a rule: what it concludes, how it rewrites an atom, and what the one has to do with the other.
+-- Only this file looks at the kinds of rules. A kind that concludes nothing and fits no atom costs one clause in each law.
+use mathlib.Core.Path.{_≡_, refl, sym, ap, ap₂, _∙_, subst}
+use mathlib.Core.Logic.{_⊎_, inl, inr, _↔_, _≢_}
+use Prim.Native.Nat.{ℕ, zero, suc}
+use native.Mathlib.Omega.{arith}
+use mathlib.Core.Bool.{Bool, true, false, _&&_}
+use mathlib.Core.Option.{Option, none, some}
+use mathlib.Core.List.{List, [], _∷_, _++_, map, List·Memᴰ·head, List·Memᴰ·tail, List·Memᴰ·not-nil, List·Memᴰ·cases-cons, Memᴰ·cast}
+use lib.Dec.{T, eqb}
+use Rattle.theory.specs.Lists.{_∈_, At, pick, guard, andThen, count}
+use Rattle.theory.specs.Syntax.{Term, var, const, Atom, concept, role, Basic, named, has, hasInverse, Rule, conceptInclusion, roleInclusion, Query, Thing, object, null, args, terms, mapAtom, value, instance, oriented, sameTerm}
+use Rattle.theory.specs.Chase.{Held, Concludes}
+use Rattle.theory.specs.Rewriting.{unbound, fresh, bearer, rewriteAtom}
+use Rattle.theory.specs.Laws.Lists.{T-and, T-eqb, is-true, is-false, either, guard-some, guard-true, andThen-some, andThen-at, some-inj, none≢some, pick-true, pick-false, here, at-mem}
+use Rattle.theory.specs.Laws.Syntax.{sameTerm-iff, mapAtom-agree, terms-atoms, terms-answers}
+use Rattle.theory.specs.Laws.Unbound.{unbound-answers, unbound-elsewhere, unbound-once}
+use Rattle.theory.specs.Laws.Fresh.{fresh-new}
+
+-- ---- a match changed at one variable
+
+abbrev pub update : {X : Type 0} → (ℕ → X) → ℕ → X → ℕ → X
+update h x y v = pick (eqb v x) y (h v)
+
+pub update-same : {X : Type 0} (h : ℕ → X) (x : ℕ) (y : X) → update h x y x ≡ y
+update-same h x y = pick-true (eqb x x) y (h x) (T-eqb x x .1 refl)
+
+pub update-other : {X : Type 0} (h : ℕ → X) (x : ℕ) (y : X) (v : ℕ) → v ≢ x → update h x y v ≡ h v
+update-other h x y v d = pick-false (eqb v x) y (h v) (λ t. d (T-eqb v x .0 t))
+
+pub value-update : (h : ℕ → Thing) (x : ℕ) (y : Thing) (t : Term) → t ≢ var x → value (update h x y) t ≡ value h t
+value-update h x y (var v) d = update-other h x y v (λ e. d (ap var e))
+value-update h x y (const c) d = refl
+
+-- ---- descriptions
+
+-- a concept name says nothing of "something"
+abbrev pub Plain : Basic → Type 0
+Plain (named A) = Unit {0}
+Plain (has P) = ⊥
+Plain (hasInverse P) = ⊥
+
+module _ {X : Type 0} where
+  pub instance-plain : (B : Basic) (x y y′ : X) → Plain B → instance B x y ≡ instance B x y′
+  instance-plain (named A) x y y′ p = refl
+  instance-plain (has P) x y y′ p = absurd p
+  instance-plain (hasInverse P) x y y′ p = absurd p
+
+  pub instance-bearer : (B : Basic) (x y : X) → x ∈ args (instance B x y)
+  instance-bearer (named A) x y = here
+  instance-bearer (has P) x y = here
+  instance-bearer (hasInverse P) x y = List·Memᴰ·tail here
+
+  pub instance-other : (B : Basic) (x y : X) → ¬ Plain B → y ∈ args (instance B x y)
+  instance-other (named A) x y n = absurd (n tt)
+  instance-other (has P) x y n = List·Memᴰ·tail here
+  instance-other (hasInverse P) x y n = here
+
+  -- what stands in a description's instance
+  pub instance-args : (B : Basic) (x y z : X) → z ∈ args (instance B x y) → (z ≡ x) ⊎ ((¬ Plain B) × (z ≡ y))
+  instance-args (named A) x y z m = elim (List·Memᴰ·cases-cons m) [ inl e ↦ inl e | inr n ↦ absurd (List·Memᴰ·not-nil n) ]
+  instance-args (has P) x y z m =
+      elim (List·Memᴰ·cases-cons m) [
+        | inl e ↦ inl e
+        | inr n ↦ elim (List·Memᴰ·cases-cons n) [ inl e ↦ inr (λ p. p, e) | inr k ↦ absurd (List·Memᴰ·not-nil k) ]
+      ]
+  instance-args (hasInverse P) x y z m =
+      elim (List·Memᴰ·cases-cons m) [
+        | inl e ↦ inr (λ p. p, e)
+        | inr n ↦ elim (List·Memᴰ·cases-cons n) [ inl e ↦ inl e | inr k ↦ absurd (List·Memᴰ·not-nil k) ]
+      ]
+
+pub mapAtom-instance : {X Y : Type 0} (f : X → Y) (B : Basic) (x y : X) → mapAtom f (instance B x y) ≡ instance B (f x) (f y)
+mapAtom-instance f (named A) x y = refl
+mapAtom-instance f (has P) x y = refl
+mapAtom-instance f (hasInverse P) x y = refl
+
+pub mapAtom-oriented : {X Y : Type 0} (f : X → Y) (b : Bool) (P : ℕ) (x y : X) → mapAtom f (oriented b P x y) ≡ oriented b P (f x) (f y)
+mapAtom-oriented f false P x y = refl
+mapAtom-oriented f true P x y = refl
+
+-- an atom whose image is a description's instance is one itself
+pub instance-image : {X Y : Type 0} (f : X → Y) (B : Basic) (a : Atom X) (x y : Y) → mapAtom f a ≡ instance B x y
+    → (s t : X) × (a ≡ instance B s t) × (f s ≡ x) × (Plain B ⊎ ((¬ Plain B) × (f t ≡ y)))
+instance-image f (named A) (concept B s) x y e = (s, s, (let d : B ≡ A = cc in ap (λ R. concept R s) d), cc, inl tt)
+instance-image f (named A) (role Q s t) x y e = absurd (let z : _≡_ {A = ℕ} 0 1 = cc in omega arith)
+instance-image f (has P) (concept B s) x y e = absurd (let z : _≡_ {A = ℕ} 0 1 = cc in omega arith)
+instance-image f (has P) (role Q s t) x y e = (s, t, (let d : Q ≡ P = cc in ap (λ R. role R s t) d), cc, inr (λ p. p, cc))
+instance-image f (hasInverse P) (concept B s) x y e = absurd (let z : _≡_ {A = ℕ} 0 1 = cc in omega arith)
+instance-image f (hasInverse P) (role Q t s) x y e = (s, t, (let d : Q ≡ P = cc in ap (λ R. role R t s) d), cc, inr (λ p. p, cc))
+
+-- ---- the term of which an atom says a description
+
+pub bearer-some : (q : Query) (B : Basic) (a : Atom Term) {t : Term} → bearer q B a ≡ some t
+    → (u : Term) × (a ≡ instance B t u) × (Plain B ⊎ ((¬ Plain B) × T (unbound q u)))
+unfolding bearer
+bearer-some q (named A) (concept B s) {t} e =
+    let g = guard-some (eqb A B) e in let d : A ≡ B = T-eqb A B .0 (g .0) in let f : s ≡ t = g .1 in (t, cc, inl tt)
+bearer-some q (named A) (role Q s u) e = absurd (none≢some e)
+bearer-some q (has P) (concept B s) e = absurd (none≢some e)
+bearer-some q (has P) (role Q s u) {t} e =
+    let g = guard-some (eqb P Q && unbound q u) e in
+    let w = T-and (eqb P Q) (unbound q u) .0 (g .0) in
+    let d : P ≡ Q = T-eqb P Q .0 (w .0) in let f : s ≡ t = g .1 in (u, cc, inr (λ p. p, w .1))
+bearer-some q (hasInverse P) (concept B s) e = absurd (none≢some e)
+bearer-some q (hasInverse P) (role Q u s) {t} e =
+    let g = guard-some (eqb P Q && unbound q u) e in
+    let w = T-and (eqb P Q) (unbound q u) .0 (g .0) in
+    let d : P ≡ Q = T-eqb P Q .0 (w .0) in let f : s ≡ t = g .1 in (u, cc, inr (λ p. p, w .1))
+
+pub bearer-of : (q : Query) (B : Basic) (t u : Term) → Plain B ⊎ T (unbound q u) → bearer q B (instance B t u) ≡ some t
+unfolding bearer
+bearer-of q (named A) t u p = guard-true (eqb A A) (T-eqb A A .1 refl)
+bearer-of q (has P) t u p = guard-true (eqb P P && unbound q u) (T-and (eqb P P) (unbound q u) .1 (T-eqb P P .1 refl, elim p [ inl x ↦ absurd x | inr y ↦ y ]))
+bearer-of q (hasInverse P) t u p = guard-true (eqb P P && unbound q u) (T-and (eqb P P) (unbound q u) .1 (T-eqb P P .1 refl, elim p [ inl x ↦ absurd x | inr y ↦ y ]))
+
+-- ---- the facts in which a rule's nulls come up
+
+-- a is the fact by which the rule at index i makes the null of the bearer c
+abbrev pub Makes : ℕ → Rule → Thing → Atom Thing → Type 0
+Makes i (conceptInclusion left right) c a = (¬ Plain right) × (a ≡ instance right c (null i c))
+Makes i (roleInclusion left exchanged right) c a = ⊥
+
+pub makes-unique : (i : ℕ) (r : Rule) (c : Thing) (a b : Atom Thing) → Makes i r c a → Makes i r c b → a ≡ b
+makes-unique i (conceptInclusion left right) c a b m n = m .1 ∙ sym (n .1)
+makes-unique i (roleInclusion left exchanged right) c a b m n = absurd m
+
+-- A thing in a conclusion stands in what the rule used, or is the null that the conclusion makes.
+pub concludes-args : (H : Held) (i : ℕ) (r : Rule) (a : Atom Thing) (z : Thing) → Concludes H i r a → z ∈ args a
+    → ((b : Atom Thing) × H b × (z ∈ args b)) ⊎ ((c : Thing) × (z ≡ null i c) × Makes i r c a)
+concludes-args H i (conceptInclusion left right) a z w m =
+    elim (instance-args right (w .0) (null i (w .0)) z (subst (λ b. z ∈ args b) (w .3) m)) [
+      | inl e ↦ inl (instance left (w .0) (w .1), w .2, Memᴰ·cast e (instance-bearer left (w .0) (w .1)))
+      | inr p ↦ inr (w .0, p .1, (p .0, w .3))
+    ]
+concludes-args H i (roleInclusion left exchanged right) a z w m =
+    inl (role left (w .0) (w .1), w .2, both exchanged (subst (λ b. z ∈ args b) (w .3) m))
+  where
+    both : (e : Bool) → z ∈ args (oriented e right (w .0) (w .1)) → z ∈ args (role left (w .0) (w .1))
+    both false n = n
+    both true n =
+        elim (List·Memᴰ·cases-cons n) [
+          | inl e ↦ List·Memᴰ·tail (List·Memᴰ·head e)
+          | inr k ↦ elim (List·Memᴰ·cases-cons k) [ inl e ↦ List·Memᴰ·head e | inr j ↦ absurd (List·Memᴰ·not-nil j) ]
+        ]
+
+-- ---- a rule that rewrites an atom concludes it
+
+-- If the rule at index k makes b of the atom a of q, and a match holds b, then some match for which the rule concludes a's
+-- image agrees with it on everything else that stands in q.
+abbrev pub Concluded : Query → Held → ℕ → ℕ → Rule → Atom Term → (ℕ → Thing) → Type 0
+Concluded q H i k r a h =
+    (h′ : ℕ → Thing) × Concludes H k r (mapAtom (value h′) a)
+    × ((t : Term) → t ∈ q .answers → value h′ t ≡ value h t)
+    × ((j : ℕ) (c : Atom Term) → At (q .atoms) j c → j ≢ i → mapAtom (value h′) c ≡ mapAtom (value h) c)
+
+-- an unbound variable u of the atom at i may be sent anywhere: nothing else that stands in q changes
+update-unbound : (q : Query) (i u : ℕ) (a : Atom Term) (h : ℕ → Thing) (y : Thing) → At (q .atoms) i a → T (unbound q (var u)) → var u ∈ args a
+    → ((t : Term) → t ∈ q .answers → value (update h u y) t ≡ value h t)
+    × ((j : ℕ) (c : Atom Term) → At (q .atoms) j c → j ≢ i → mapAtom (value (update h u y)) c ≡ mapAtom (value h) c)
+update-unbound q i u a h y at un m = (
+  λ t n. value-update h u y t (λ e. unbound-answers q u un (Memᴰ·cast (sym e) n)),
+  λ j c atc d. mapAtom-agree (value (update h u y)) (value h) c
+      (λ t n. value-update h u y t (λ e. d (sym (unbound-elsewhere q u i j a c un at atc m (Memᴰ·cast (sym e) n))))),
+)
+
+unbound-const : (q : Query) (c : ℕ) → T (unbound q (const c)) → ⊥
+unfolding unbound
+unbound-const q c x = x
+
+-- a description's instance does not have an unbound variable at both places
+instance-once : (q : Query) (i u : ℕ) (B : Basic) → ¬ Plain B → T (unbound q (var u)) → At (q .atoms) i (instance B (var u) (var u)) → ⊥
+instance-once q i u (named A) n un at = n tt
+instance-once q i u (has P) n un at = unbound-once q u i P un at
+instance-once q i u (hasInverse P) n un at = unbound-once q u i P un at
+
+instance-sound : (q : Query) (H : Held) (i k : ℕ) (left right : Basic) (t u : Term) (z : ℕ) (h : ℕ → Thing) → At (q .atoms) i (instance right t u)
+    → Plain right ⊎ ((¬ Plain right) × T (unbound q u)) → H (mapAtom (value h) (instance left t (var z)))
+    → Concluded q H i k (conceptInclusion left right) (instance right t u) h
+instance-sound q H i k left right t u z h at (inl p) holds = (
+  h,
+  (
+    value h t,
+    h z,
+    subst H (mapAtom-instance (value h) left t (var z)) holds,
+    mapAtom-instance (value h) right t u ∙ instance-plain right (value h t) (value h u) (null k (value h t)) p,
+  ),
+  λ s m. refl,
+  λ j c atc d. refl,
+)
+instance-sound q H i k left right t (const c) z h at (inr w) holds = absurd (unbound-const q c (w .1))
+instance-sound q H i k left right t (var x) z h at (inr w) holds = (
+  update h x new,
+  (
+    value h t,
+    h z,
+    subst H (mapAtom-instance (value h) left t (var z)) holds,
+    mapAtom-instance (value (update h x new)) right t (var x) ∙ ap₂ (instance right) (value-update h x new t apart) (update-same h x new),
+  ),
+  rest .0,
+  rest .1,
+)
+  where
+    new : Thing
+    new = null k (value h t)
+
+    apart : t ≢ var x
+    apart e = instance-once q i x right (w .0) (w .1) (subst (λ s. At (q .atoms) i (instance right s (var x))) e at)
+
+    rest : ((s : Term) → s ∈ q .answers → value (update h x new) s ≡ value h s)
+        × ((j : ℕ) (c : Atom Term) → At (q .atoms) j c → j ≢ i → mapAtom (value (update h x new)) c ≡ mapAtom (value h) c)
+    rest = update-unbound q i x (instance right t (var x)) h new at (w .1) (instance-other right t (var x) (w .0))
+
+pub rewrite-concludes : (q : Query) (H : Held) (i k : ℕ) (r : Rule) (a b : Atom Term) (h : ℕ → Thing) → At (q .atoms) i a
+    → rewriteAtom q r a ≡ some b → H (mapAtom (value h) b) → Concluded q H i k r a h
+unfolding rewriteAtom
+rewrite-concludes q H i k (conceptInclusion left right) a b h at e holds =
+    let w = andThen-some (bearer q right a) e in
+    let s = bearer-some q right a (w .1) in
+    subst (λ c. Concluded q H i k (conceptInclusion left right) c h) (sym (s .1))
+    (instance-sound q H i k left right (w .0) (s .0) (fresh q) h (subst (λ c. At (q .atoms) i c) (s .1) at) (s .2)
+    (subst (λ c. H (mapAtom (value h) c)) (sym (some-inj (w .2))) holds))
+rewrite-concludes q H i k (roleInclusion left exchanged right) (concept B t) b h at e holds = absurd (none≢some e)
+rewrite-concludes q H i k (roleInclusion left exchanged right) (role Q t u) b h at e holds =
+    let g = guard-some (eqb right Q) e in
+    (h, go exchanged (T-eqb right Q .0 (g .0)) (subst (λ c. H (mapAtom (value h) c)) (sym (g .1)) holds), λ s m. refl, λ j c atc d. refl)
+  where
+    go : (x : Bool) → right ≡ Q → H (mapAtom (value h) (oriented x left t u)) → Concludes H k (roleInclusion left x right) (role Q (value h t) (value h u))
+    go false d held = (value h t, value h u, held, ap (λ R. role R (value h t) (value h u)) (sym d))
+    go true d held = (value h u, value h t, held, ap (λ R. role R (value h t) (value h u)) (sym d))
+
+-- ---- a rule that concludes an atom's image rewrites the atom, or its null stands at a bound variable
+
+-- the rule fits the atom, and a match that agrees on everything in q holds what it makes
+abbrev pub Rewritten : Query → Held → Rule → Atom Term → (ℕ → Thing) → Type 0
+Rewritten q H r a h =
+    (b : Atom Term) × (h′ : ℕ → Thing) × (rewriteAtom q r a ≡ some b) × H (mapAtom (value h′) b)
+    × ((t : Term) → t ∈ terms q → value h′ t ≡ value h t)
+
+-- the atom's image makes a null, which stands at one place of the atom, at a variable that is not unbound
+abbrev pub AtBound : Query → ℕ → Rule → Atom Term → (ℕ → Thing) → Type 0
+AtBound q k r a h =
+    (u : ℕ) × (c : Thing) × (h u ≡ null k c) × Makes k r c (mapAtom (value h) a)
+    × (count (sameTerm (var u)) (args a) ≡ 1) × (¬ T (unbound q (var u)))
+
+-- no thing is a null of itself
+pub null-inj : (i j : ℕ) (c d : Thing) → null i c ≡ null j d → (i ≡ j) × (c ≡ d)
+null-inj i j c d e = (cc, cc)
+
+pub null-grows : (k : ℕ) (c : Thing) → ¬ (c ≡ null k c)
+null-grows k (object o) e = let z : _≡_ {A = ℕ} 0 1 = cc in omega arith
+null-grows k (null j c) e =
+    let w = null-inj j k c (null j c) e in
+    null-grows k c (w .1 ∙ ap (λ i. null i c) (w .0))
+
+count-instance : (B : Basic) (t : Term) (u : ℕ) → ¬ Plain B → t ≢ var u → count (sameTerm (var u)) (args (instance B t (var u))) ≡ 1
+unfolding count
+count-instance (named A) t u n d = absurd (n tt)
+count-instance (has P) t u n d = rw (is-false (sameTerm (var u) t) (λ x. d (sym (sameTerm-iff (var u) t .0 x))), is-true (sameTerm (var u) (var u)) (sameTerm-iff (var u) (var u) .1 refl))
+count-instance (hasInverse P) t u n d = rw (is-false (sameTerm (var u) t) (λ x. d (sym (sameTerm-iff (var u) t .0 x))), is-true (sameTerm (var u) (var u)) (sameTerm-iff (var u) (var u) .1 refl))
+
+-- the rule fits: its fresh variable is sent to the witness
+instance-rewritten : (q : Query) (H : Held) (left right : Basic) (t u : Term) (h : ℕ → Thing) (y : Thing) → t ∈ terms q
+    → H (instance left (value h t) y) → Plain right ⊎ T (unbound q u) → Rewritten q H (conceptInclusion left right) (instance right t u) h
+unfolding rewriteAtom
+instance-rewritten q H left right t u h y m holds w = (
+  instance left t (var (fresh q)),
+  update h (fresh q) y,
+  andThen-at (λ s. some (instance left s (var (fresh q)))) (bearer-of q right t u w),
+  subst H (sym (mapAtom-instance (value (update h (fresh q) y)) left t (var (fresh q))
+      ∙ ap₂ (instance left) (agrees t m) (update-same h (fresh q) y))) holds,
+  agrees,
+)
+  where
+    agrees : (s : Term) → s ∈ terms q → value (update h (fresh q) y) s ≡ value h s
+    agrees s n = value-update h (fresh q) y s (λ e. fresh-new q (Memᴰ·cast (sym e) n))
+
+instance-complete : (q : Query) (H : Held) (k : ℕ) (left right : Basic) (t u : Term) (h : ℕ → Thing) (y : Thing) → t ∈ terms q
+    → H (instance left (value h t) y) → Plain right ⊎ ((¬ Plain right) × (value h u ≡ null k (value h t)))
+    → Rewritten q H (conceptInclusion left right) (instance right t u) h ⊎ AtBound q k (conceptInclusion left right) (instance right t u) h
+instance-complete q H k left right t u h y m holds (inl p) = inl (instance-rewritten q H left right t u h y m holds (inl p))
+instance-complete q H k left right t (const c) h y m holds (inr w) = let e = w .1 in absurd (let z : _≡_ {A = ℕ} 0 1 = cc in omega arith)
+instance-complete q H k left right t (var v) h y m holds (inr w) =
+    elim (either (unbound q (var v))) [
+      | inl un ↦ inl (instance-rewritten q H left right t (var v) h y m holds (inr un))
+      | inr bo ↦ inr (
+        v,
+        value h t,
+        w .1,
+        (w .0, mapAtom-instance (value h) right t (var v) ∙ ap (instance right (value h t)) (w .1)),
+        count-instance right t v (w .0) (λ e. null-grows k (value h t) (ap (value h) e ∙ w .1)),
+        bo,
+      )
+    ]
+
+pub concludes-rewritten : (q : Query) (H : Held) (i k : ℕ) (r : Rule) (a : Atom Term) (h : ℕ → Thing) → At (q .atoms) i a
+    → Concludes H k r (mapAtom (value h) a) → Rewritten q H r a h ⊎ AtBound q k r a h
+unfolding rewriteAtom
+concludes-rewritten q H i k (conceptInclusion left right) a h at w =
+    let s = instance-image (value h) right a (w .0) (null k (w .0)) (w .3) in
+    subst (λ c. Rewritten q H (conceptInclusion left right) c h ⊎ AtBound q k (conceptInclusion left right) c h) (sym (s .2))
+    (instance-complete q H k left right (s .0) (s .1) h (w .1)
+    (terms-atoms q (subst (λ c. c ∈ q .atoms) (s .2) (at-mem (q .atoms) i at)) (instance-bearer right (s .0) (s .1)))
+    (subst (λ x. H (instance left x (w .1))) (sym (s .3)) (w .2))
+    (elim (s .4) [ inl p ↦ inl p | inr p ↦ inr (p .0, p .1 ∙ ap (null k) (sym (s .3))) ]))
+concludes-rewritten q H i k (roleInclusion left exchanged right) (concept B t) h at w = absurd (never exchanged (w .3))
+  where
+    never : (x : Bool) → mapAtom (value h) (concept B t) ≡ oriented x right (w .0) (w .1) → ⊥
+    never true e = let z : _≡_ {A = ℕ} 0 1 = cc in omega arith
+    never false e = let z : _≡_ {A = ℕ} 0 1 = cc in omega arith
+concludes-rewritten q H i k (roleInclusion left exchanged right) (role Q t u) h at w =
+    inl (go exchanged (w .2) (w .3))
+  where
+    go : (x : Bool) → H (role left (w .0) (w .1)) → role Q (value h t) (value h u) ≡ oriented x right (w .0) (w .1)
+        → Rewritten q H (roleInclusion left x right) (role Q t u) h
+    go false held e =
+        let d : right ≡ Q = cc in let f : w .0 ≡ value h t = cc in let g : w .1 ≡ value h u = cc in
+        (role left t u, h, guard-true (eqb right Q) (T-eqb right Q .1 d), subst H (ap₂ (role left) f g) held, λ s m. refl)
+    go true held e =
+        let d : right ≡ Q = cc in let f : w .0 ≡ value h u = cc in let g : w .1 ≡ value h t = cc in
+        (role left u t, h, guard-true (eqb right Q) (T-eqb right Q .1 d), subst H (ap₂ (role left) f g) held, λ s m. refl)
