@@ -1,22 +1,35 @@
 -- The laws of the definitions: what each means, and that both readers agree.
+
+-- on tests, lists, numbers and finite maps
+pub mod Options
 pub mod Lists
+pub mod Counting
+pub mod Ascending
 pub mod Lookup
 pub mod Refusals
+-- the steps
 pub mod Syntax
 pub mod Unbound
 pub mod Fresh
 pub mod Unifier
 pub mod Steps
-pub mod Variables
+-- renaming
 pub mod Equivalence
-pub mod Merging
+pub mod Variables
 pub mod RenamingDecided
+pub mod Merging
+pub mod Rules
+pub mod RespectRules
+pub mod Respect
+-- accepted unions
 pub mod WrittenStep
 pub mod UnionTests
 pub mod Union
+-- answers from facts
+pub mod Chase
 pub mod Matches
 pub mod Answers
-pub mod Rules
+-- both readers agree
 pub mod Soundness
 pub mod Depth
 pub mod Birth

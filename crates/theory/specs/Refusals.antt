@@ -1,7 +1,7 @@
 -- A list of refusals. 01: "The first entry whose condition holds decides, for the earlier ones not holding." Once as numbered
 -- tests, which compute, and once as numbered conditions, which say what is meant.
 use mathlib.Core.Path.{_≡_}
-use mathlib.Core.Logic.{_⊎_, _↔_}
+use mathlib.Core.Logic.{_⊎_}
 use Prim.Native.Nat.{ℕ}
 use mathlib.Core.Bool.{Bool}
 use mathlib.Core.Option.{Option, none, some}

@@ -1,7 +1,7 @@
 -- 01: alike. "Two questions are alike if a one-to-one renaming of variables carries answer terms to answer terms in order and
 -- the set of atoms to the set of atoms": the meaning, and a search that decides it.
 use mathlib.Core.Path.{_≡_}
-use Prim.Native.Nat.{ℕ, zero, suc}
+use Prim.Native.Nat.{ℕ}
 use mathlib.Core.Bool.{Bool, true, false, not, _&&_}
 use mathlib.Core.Option.{Option, none, some}
 use mathlib.Core.List.{List, [], _∷_, map}

@@ -2,7 +2,7 @@
 -- and the things that a chase round speaks of.
 use Prim.Native.Nat.{ℕ}
 use mathlib.Core.Bool.{Bool, true, false, _&&_}
-use mathlib.Core.List.{List, [], _∷_, _++_, map}
+use mathlib.Core.List.{List, [], _∷_, _++_}
 use lib.Dec.{eqb}
 
 -- 01: term, "0 for variable or 1 for object, then a 16-bit number"

@@ -1,16 +1,16 @@
 -- Accepted unions: demand 2's meaning, and the check that gives the first of refusals 7 to 11 that applies.
 use mathlib.Core.Path.{_≡_}
 use mathlib.Core.Logic.{_⊎_, _≢_}
-use Prim.Native.Nat.{ℕ, zero, suc, _+_, _≤_, _<_, max}
+use Prim.Native.Nat.{ℕ, suc, _≤_, _<_, max}
 use mathlib.Core.Bool.{Bool, true, false, not, _&&_, _||_}
 use mathlib.Core.Option.{Option, none, some}
-use mathlib.Core.List.{List, [], _∷_, _++_, map, foldr}
+use mathlib.Core.List.{List, [], _∷_, _++_, foldr}
 use lib.Dec.{eqb, ltb}
 use lib.ListN.{length, getElem?, getD, drop}
 use Rattle.theory.specs.Lists.{_∈_, At, Unrepeated, pick, andThen, any, pairwise, isSome}
 use Rattle.theory.specs.Refusals.{firstRefusal}
 use Rattle.theory.specs.Syntax.{Term, var, Atom, Rule, Query, Step, Member, UCQ, places, mapAtom, subst-term, sameTerm, sameAtom}
-use Rattle.theory.specs.Rewriting.{ruleStep, mergeStep, steps, StepTo, rewriteAtom, unify}
+use Rattle.theory.specs.Rewriting.{ruleStep, mergeStep, steps, StepTo, rewriteAtom}
 use Rattle.theory.specs.Renaming.{Alike, alike}
 
 -- ---- what refusals 4 to 6 leave: each member by itself

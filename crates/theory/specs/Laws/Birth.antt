@@ -1,13 +1,13 @@
 -- Where a null comes from: a fact of round m in which the null of rule r and bearer c stands is the very fact that makes this null,
 -- or that fact stands in an earlier round.
-use mathlib.Core.Path.{_≡_, refl, sym, ap, _∙_, subst}
+use mathlib.Core.Path.{_≡_, refl, sym, subst}
 use mathlib.Core.Logic.{_⊎_, inl, inr}
 use Prim.Native.Nat.{ℕ, zero, suc, _<_}
 use native.Mathlib.Nat.{le-refl, le-step}
 use native.Mathlib.Omega.{arith}
-use mathlib.Core.List.{List, Memᴰ·cast}
+use mathlib.Core.List.{List}
 use Rattle.theory.specs.Lists.{_∈_, At}
-use Rattle.theory.specs.Syntax.{Atom, Rule, Fact, Thing, object, null, args, mapAtom}
+use Rattle.theory.specs.Syntax.{Atom, Rule, Fact, Thing, object, null, args}
 use Rattle.theory.specs.Chase.{Round}
 use Rattle.theory.specs.Laws.Syntax.{args-map}
 use Rattle.theory.specs.Laws.Rules.{Makes, concludes-args, null-inj}

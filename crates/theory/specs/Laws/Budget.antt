@@ -1,41 +1,17 @@
--- Costs on a list: every element can be had at some cost, and the costs add up to at most N.
-use mathlib.Core.Path.{_≡_, refl, sym, ap, _∙_, subst}
-use mathlib.Core.Logic.{_⊎_, inl, inr, _≢_}
-use Prim.Native.Nat.{ℕ, zero, suc, _+_, _*_, _≤_, _<_}
+-- Costs on a list: every element can be had at some cost, and the costs add up to no more than a total.
+use mathlib.Core.Path.{_≡_, refl, sym, subst}
+use mathlib.Core.Logic.{_⊎_, inl, inr}
+use Prim.Native.Nat.{ℕ, zero, suc, _+_, _*_, _≤_}
 use native.Mathlib.Nat.{le-refl, le-trans}
-use native.Mathlib.Decide.{decLe, ℕ-discrete}
+use native.Mathlib.Decide.{decLe}
 use native.Mathlib.Omega.{arith}
-use mathlib.Core.Option.{Option, none, some}
-use mathlib.Core.List.{List, [], _∷_, List·Memᴰ·head, List·Memᴰ·tail, List·Memᴰ·not-nil, Memᴰ·cast}
-use lib.ListN.{length, set}
+use mathlib.Core.List.{List, [], _∷_, List·Memᴰ·tail, Memᴰ·cast}
+use lib.ListN.{length}
 use Rattle.theory.specs.Lists.{_∈_, At, Unrepeated}
-use Rattle.theory.specs.Laws.Lists.{some-inj, none≢some, here, mem-at, at-mem, at-unique}
+use Rattle.theory.specs.Laws.Options.{some-inj, none≢some}
+use Rattle.theory.specs.Laws.Lists.{dropAt, mem-dropAt, here, mem-at, at-equal}
 
 module _ {X : Type 0} where
-  -- the list without the element at index i
-  abbrev pub dropAt : List X → ℕ → List X
-  dropAt [] i = []
-  dropAt (x ∷ xs) zero = xs
-  dropAt (x ∷ xs) (suc i) = x ∷ dropAt xs i
-
-  pub mem-dropAt : (xs : List X) (i j : ℕ) {x : X} → At xs j x → j ≢ i → x ∈ dropAt xs i
-  mem-dropAt [] i j e d = absurd (none≢some e)
-  mem-dropAt (y ∷ ys) zero zero e d = absurd (d refl)
-  mem-dropAt (y ∷ ys) zero (suc j) e d = at-mem ys j e
-  mem-dropAt (y ∷ ys) (suc i) zero e d = List·Memᴰ·head (sym (some-inj e))
-  mem-dropAt (y ∷ ys) (suc i) (suc j) e d = List·Memᴰ·tail (mem-dropAt ys i j e (λ f. d (ap suc f)))
-
-  pub dropAt-mem : (xs : List X) (i : ℕ) {x : X} → x ∈ dropAt xs i → x ∈ xs
-  dropAt-mem [] i m = m
-  dropAt-mem (y ∷ ys) zero m = List·Memᴰ·tail m
-  dropAt-mem (y ∷ ys) (suc i) (List·Memᴰ·head e) = List·Memᴰ·head e
-  dropAt-mem (y ∷ ys) (suc i) (List·Memᴰ·tail m) = List·Memᴰ·tail (dropAt-mem ys i m)
-
-  pub dropAt-set : (xs : List X) (i : ℕ) (b : X) → dropAt (set xs i b) i ≡ dropAt xs i
-  dropAt-set [] i b = refl
-  dropAt-set (x ∷ xs) zero b = refl
-  dropAt-set (x ∷ xs) (suc i) b = ap (λ r. x ∷ r) (dropAt-set xs i b)
-
   -- C x n: the element x can be had at cost n
   abbrev pub Budget : (X → ℕ → Type 0) → List X → ℕ → Type 0
   Budget C [] total = Unit {0}
@@ -55,7 +31,7 @@ module _ {X : Type 0} where
   budget-all C n (x ∷ xs) f = (n, length xs * n, f x here, omega arith, budget-all C n xs (λ y m. f y (List·Memᴰ·tail m)))
 
   -- one element taken out, with its cost
-  pub take-out : (C : X → ℕ → Type 0) (xs : List X) (i : ℕ) {x : X} (total : ℕ) → At xs i x → Budget C xs total
+  take-out : (C : X → ℕ → Type 0) (xs : List X) (i : ℕ) {x : X} (total : ℕ) → At xs i x → Budget C xs total
       → (n rest : ℕ) × C x n × (n + rest ≤ total) × Budget C (dropAt xs i) rest
   take-out C [] i total e b = absurd (none≢some e)
   take-out C (y ∷ ys) zero total e (k, rest, c, h, b) = (k, rest, subst (λ w. C w k) (some-inj e) c, h, b)
@@ -132,6 +108,6 @@ budget-transfer {X} {Y} C D From cost one xs (y ∷ ys) total u from b = (
     others z m = let w = from z (List·Memᴰ·tail m) in let j = mem-at (w .1) in (
       w .0,
       mem-dropAt xs (p .0) (j .0) (j .1)
-          (λ e. u .0 (Memᴰ·cast (one (s .0) y z (s .2) (subst (λ x. From x z) (at-unique xs (p .0) (subst (λ k. At xs k (w .0)) e (j .1)) (p .1)) (w .2))) m)),
+          (λ e. u .0 (Memᴰ·cast (one (s .0) y z (s .2) (subst (λ x. From x z) (at-equal xs e (j .1) (p .1)) (w .2))) m)),
       w .2,
     )

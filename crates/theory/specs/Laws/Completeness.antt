@@ -1,57 +1,40 @@
 -- Whatever the question finds in some round, a member finds in round 0. A matched member whose atoms cost their rounds is
 -- traded for one that costs less, by the steps under which the union is closed, until every atom costs nothing.
-use mathlib.Core.Path.{_≡_, refl, sym, ap, ap₂, _∙_, subst}
+use mathlib.Core.Path.{_≡_, refl, sym, ap, _∙_, subst}
 use mathlib.Core.Logic.{_⊎_, inl, inr, _≢_}
-use Prim.Native.Nat.{ℕ, zero, suc, _+_, _*_, _≤_, _<_, zero-le}
-use native.Mathlib.Nat.{le-refl, le-trans, le-of-suc-le-suc}
-use native.Mathlib.Decide.{ℕ-discrete, decLt}
+use Prim.Native.Nat.{ℕ, zero, suc, _+_, _*_, _≤_, _<_}
+use native.Mathlib.Nat.{le-refl}
+use native.Mathlib.Decide.{ℕ-discrete}
 use native.Mathlib.Omega.{arith}
-use mathlib.Core.Option.{Option, none, some}
-use mathlib.Core.List.{List, [], _∷_, map, List·Memᴰ·head, List·Memᴰ·tail, List·Memᴰ·not-nil, Memᴰ·cast, Memᴰ·map, Memᴰ·of-map}
-use lib.ListN.{length, getElem?, set}
-use lib.Dec.{T, ltb, lt→ltb}
+use mathlib.Core.Option.{some}
+use mathlib.Core.List.{List, map, List·Memᴰ·not-nil, Memᴰ·cast, Memᴰ·map, Memᴰ·of-map}
+use lib.ListN.{length, set}
 use Rattle.theory.specs.Lists.{_∈_, At, Unrepeated}
-use Rattle.theory.specs.Syntax.{Term, var, const, Atom, Rule, Query, Member, UCQ, Fact, Thing, object, null, args, terms, mapAtom, value, subst-term, rename}
+use Rattle.theory.specs.Syntax.{Term, var, Atom, Rule, Query, Member, UCQ, Fact, Thing, object, null, mapAtom, value, subst-term, rename}
 use Rattle.theory.specs.Chase.{Round, Answer, FirstReader}
-use Rattle.theory.specs.Rewriting.{rewriteAtom, unify, substitute, changeAtom, ruleStep, mergeStep, StepTo}
+use Rattle.theory.specs.Rewriting.{substitute, changeAtom, mergeStep, StepTo}
 use Rattle.theory.specs.Renaming.{Alike}
 use Rattle.theory.specs.Union.{Accepted, SoundUnion, noStep}
-use Rattle.theory.specs.Laws.Lists.{andThen-at, pick-true, some-inj, here, mem-at, at-mem, at-unique}
-use Rattle.theory.specs.Laws.Syntax.{mapAtom-id, mapAtom-mapAtom, mapAtom-agree, map-agree, keepOnce-mem, mem-keepOnce, terms-atoms, terms-answers, map-args}
-use Rattle.theory.specs.Laws.Equivalence.{inverse, map-after, mapAtom-after}
-use Rattle.theory.specs.Laws.Merging.{substitute-mem}
-use Rattle.theory.specs.Laws.Unifier.{unify-equal, unify-factors, unify-complete}
+use Rattle.theory.specs.Laws.Lists.{mem-at, at-mem, at-equal, at-unique, map-after, map-agree, set-at, dropAt, mem-dropAt, dropAt-mem, dropAt-set}
+use Rattle.theory.specs.Laws.Syntax.{mapAtom-id, mapAtom-agree, keepOnce-mem, terms-atoms, terms-answers, map-args, substitute-mem, mapAtom-after}
 use Rattle.theory.specs.Laws.Unbound.{bound-elsewhere}
+use Rattle.theory.specs.Laws.Unifier.{through-term, Unifies, unifies-equal, unifies-factors}
+use Rattle.theory.specs.Laws.Steps.{ruleStep-iff, mergeStep-either}
+use Rattle.theory.specs.Laws.Equivalence.{undo, term-undone, atom-undone}
 use Rattle.theory.specs.Laws.Rules.{concludes-rewritten, Rewritten, AtBound, Makes, makes-unique}
-use Rattle.theory.specs.Laws.Soundness.{map-map, value-subst, value-rename, set-at, set-elsewhere, round-later}
-use Rattle.theory.specs.Laws.Birth.{birth, Born}
-use Rattle.theory.specs.Laws.Budget.{dropAt, mem-dropAt, dropAt-mem, dropAt-set, Budget, Greatest, greatest-or-empty, budget-more, budget-map, budget-all, budget-at, budget-transfer, put-back}
-
--- the step that a rule makes of an atom which it fits
-ruleStep-of : (rules : List Rule) (q : Query) (i k : ℕ) {ρ : Rule} {a b : Atom Term} → At rules k ρ → At (q .atoms) i a → rewriteAtom q ρ a ≡ some b
-    → ruleStep rules q i k ≡ some (changeAtom q i b)
-unfolding ruleStep
-ruleStep-of rules q i k {ρ} {a} {b} atk at e =
-    andThen-at _ atk ∙ andThen-at _ at ∙ andThen-at (λ c. some (changeAtom q i c)) e
-
--- the merge of two atoms that unify
-mergeStep-of : (q : Query) (i j : ℕ) {a b : Atom Term} {σ : ℕ → Term} → i < j → At (q .atoms) i a → At (q .atoms) j b → unify a b ≡ some σ
-    → mergeStep q i j ≡ some (substitute σ q)
-unfolding mergeStep
-mergeStep-of q i j {a} {b} {σ} l ati atj e =
-    pick-true (ltb i j) _ none (lt→ltb i j l)
-    ∙ andThen-at _ ati ∙ andThen-at _ atj ∙ andThen-at (λ τ. some (substitute τ q)) e
+use Rattle.theory.specs.Laws.Birth.{birth}
+use Rattle.theory.specs.Laws.Budget.{Budget, Greatest, greatest-or-empty, budget-more, budget-map, budget-all, budget-at, budget-transfer, put-back}
 
 module _ (rules : List Rule) (facts : List Fact) where
   -- the image of an atom under h holds in round n
-  abbrev pub HoldsIn : (ℕ → Thing) → Atom Term → ℕ → Type 0
+  abbrev HoldsIn : (ℕ → Thing) → Atom Term → ℕ → Type 0
   HoldsIn h a n = Round rules facts n (mapAtom (value h) a)
 
   -- a match of p that gives the tuple, and whose atoms' rounds add up to at most so many
-  pub record Matched (p : Query) (tuple : List ℕ) (total : ℕ) : Type 0 where
-    pub match : ℕ → Thing
-    pub sends : map (value match) (p .answers) ≡ map object tuple
-    pub cost : Budget (HoldsIn match) (p .atoms) total
+  record Matched (p : Query) (tuple : List ℕ) (total : ℕ) : Type 0 where
+    match : ℕ → Thing
+    sends : map (value match) (p .answers) ≡ map object tuple
+    cost : Budget (HoldsIn match) (p .atoms) total
 
   -- A query r alike to q: a match of r carries over, and costs no more. The atoms of r come from a list that has a budget.
   matched-alike : (r q : Query) (a : Alike r q) (tuple : List ℕ) (total : ℕ) (h : ℕ → Thing) (xs : List (Atom Term)) (s : Term → Term)
@@ -60,23 +43,16 @@ module _ (rules : List Rule) (facts : List Fact) where
       → Budget (λ x n. HoldsIn h (mapAtom s x) n) xs total → Matched q tuple total
   matched-alike r q a tuple total h xs s u sends from b = record {
     match = h′;
-    sends = ap (map (value h′)) (sym (a .on-answers)) ∙ map-map (value h′) (rename (a .to)) (r .answers)
-        ∙ map-agree (λ t. value h′ (rename (a .to) t)) (value h) (r .answers) (λ t m. back t (terms-answers r m)) ∙ sends;
+    sends = ap (map (value h′)) (sym (a .on-answers))
+        ∙ map-after (value h′) (rename (a .to)) (value h) (r .answers) (λ t m. term-undone r q a object h t (terms-answers r m)) ∙ sends;
     cost = budget-transfer (λ x n. HoldsIn h (mapAtom s x) n) (HoldsIn h′) From
         (λ x y n w held. subst (Round rules facts n) (image x y w) held)
         (λ x y z v w. sym (v .3) ∙ ap (mapAtom (rename (a .to))) (sym (v .2) ∙ w .2) ∙ w .3)
         xs (q .atoms) total u source b;
   }
     where
-      g : ℕ → ℕ
-      g = inverse r q a .0
-
       h′ : ℕ → Thing
-      h′ w = h (g w)
-
-      back : (t : Term) → t ∈ terms r → value h′ (rename (a .to) t) ≡ value h t
-      back (var v) m = ap h (inverse r q a .1 v m)
-      back (const c) m = refl
+      h′ w = h (undo r q a w)
 
       -- the atom y of q is the renamed image of x
       From : Atom Term → Atom Term → Type 0
@@ -85,7 +61,7 @@ module _ (rules : List Rule) (facts : List Fact) where
       image : (x y : Atom Term) → From x y → mapAtom (value h) (mapAtom s x) ≡ mapAtom (value h′) y
       image x y (c, m, e, f) =
           ap (mapAtom (value h)) e
-          ∙ sym (mapAtom-after (value h′) (rename (a .to)) (value h) c (λ t n. back t (terms-atoms r m n)))
+          ∙ sym (atom-undone r q a object h c m)
           ∙ ap (mapAtom (value h′)) f
 
       source : (y : Atom Term) → y ∈ q .atoms → (x : Atom Term) × (x ∈ xs) × From x y
@@ -117,7 +93,7 @@ module _ (rules : List Rule) (facts : List Fact) where
       unfolding changeAtom
       by-rule l k ρ a n rest at atk (b, h′, e, held, agree) budget =
           through-step m (changeAtom (m .query) l b) (n + rest) h′ (set (m .query .atoms) l b) (λ t. t) i
-          (inl (l, k, ruleStep-of rules (m .query) l k atk at e))
+          (inl (l, k, ruleStep-iff rules (m .query) l k (changeAtom (m .query) l b) .1 (ρ, a, b, atk, at, e, refl)))
           (map-agree (value h′) (value h) (m .query .answers) (λ t j. agree t (terms-answers (m .query) j)) ∙ sends)
           (λ c j. (c, keepOnce-mem (set (m .query .atoms) l b) j, mapAtom-id c))
           (put-back (λ x j. HoldsIn h′ (mapAtom (λ t. t) x) j) (set (m .query .atoms) l b) l n rest (n + rest) (set-at (m .query .atoms) l b at)
@@ -131,38 +107,24 @@ module _ (rules : List Rule) (facts : List Fact) where
           same : (x : Atom Term) (j : ℕ) → HoldsIn h′ x j → HoldsIn h′ (mapAtom (λ t. t) x) j
           same x j w = subst (λ c. HoldsIn h′ c j) (sym (mapAtom-id x)) w
 
-      -- the atoms a and b have one image: whichever way round they unify, the match factors through the unifier, which makes
-      -- them equal
-      unified : (l j : ℕ) (a b : Atom Term) → At (m .query .atoms) l a → At (m .query .atoms) j b → j ≢ l → mapAtom (value h) a ≡ mapAtom (value h) b
-          → (σ : ℕ → Term) × StepTo rules (m .query) (substitute σ (m .query)) × ((v : ℕ) → h v ≡ value h (σ v))
-          × (mapAtom (subst-term σ) a ≡ mapAtom (subst-term σ) b)
-      unified l j a b at atj d same = elim (decLt l j) [
-        | yes lt ↦ (let (σ, e) = unify-complete object (λ c d f. cc) a b h same in
-            (σ, inr (l, j, mergeStep-of (m .query) l j lt at atj e), unify-factors object a b e h same, unify-equal a b e))
-        | no ge ↦ (let (σ, e) = unify-complete object (λ c d f. cc) b a h (sym same) in
-            (σ, inr (j, l, mergeStep-of (m .query) j l (omega arith) atj at e), unify-factors object b a e h (sym same), sym (unify-equal b a e)))
-      ]
-
       -- the atom's null stands in another atom too, whose image is the same fact: the two are merged
       by-merge : (l j : ℕ) (a b : Atom Term) (rest : ℕ) → At (m .query .atoms) l a → At (m .query .atoms) j b → j ≢ l
           → mapAtom (value h) a ≡ mapAtom (value h) b → Budget (HoldsIn h) (dropAt (m .query .atoms) l) rest → MemberMatched rest
       unfolding substitute
       by-merge l j a b rest at atj d same budget =
-          through-step m (substitute σ (m .query)) rest h (dropAt (m .query .atoms) l) (subst-term σ) i (u .1)
+          through-step m (substitute σ (m .query)) rest h (dropAt (m .query .atoms) l) (subst-term σ) i (inr (u .2, u .3, u .4))
           (sent ∙ sends) from
           (budget-map (HoldsIn h) (λ x k. HoldsIn h (mapAtom (subst-term σ) x) k) (dropAt (m .query .atoms) l) rest
           (λ x k n w. subst (Round rules facts k) (sym (mapAtom-after (value h) (subst-term σ) (value h) x (λ t p. kept t))) w) budget)
         where
-          u : (σ : ℕ → Term) × StepTo rules (m .query) (substitute σ (m .query)) × ((v : ℕ) → h v ≡ value h (σ v))
-              × (mapAtom (subst-term σ) a ≡ mapAtom (subst-term σ) b)
-          u = unified l j a b at atj d same
+          u : (σ : ℕ → Term) × Unifies a b σ × (k l : ℕ) × (mergeStep (m .query) k l ≡ some (substitute σ (m .query)))
+          u = mergeStep-either object (λ c d f. cc) (m .query) l j a b h (λ e. d (sym e)) at atj same
 
           σ : ℕ → Term
           σ = u .0
 
           kept : (t : Term) → value h (subst-term σ t) ≡ value h t
-          kept (var v) = sym (u .2 v)
-          kept (const c) = refl
+          kept = through-term object h σ (unifies-factors object a b (u .1) h same)
 
           sent : map (value h) (substitute σ (m .query) .answers) ≡ map (value h) (m .query .answers)
           sent = map-after (value h) (subst-term σ) (value h) (m .query .answers) (λ t n. kept t)
@@ -172,7 +134,7 @@ module _ (rules : List Rule) (facts : List Fact) where
             | yes f ↦ (
               b,
               mem-dropAt (m .query .atoms) l j atj d,
-              sym (u .3) ∙ ap (mapAtom (subst-term σ)) (at-unique (m .query .atoms) l at (subst (λ y. At (m .query .atoms) y x) f atw)) ∙ e,
+              sym (unifies-equal a b (u .1)) ∙ ap (mapAtom (subst-term σ)) (at-equal (m .query .atoms) (sym f) at atw) ∙ e,
             )
             | no f ↦ (x, mem-dropAt (m .query .atoms) l w atw f, e)
           ]
@@ -225,7 +187,7 @@ module _ (rules : List Rule) (facts : List Fact) where
           → Budget (λ b j. HoldsIn h b j × (j ≤ zero)) (dropAt (m .query .atoms) l) rest → (x : Atom Term) → x ∈ m .query .atoms → HoldsIn h x zero
       free l a rest at held budget x j =
           let (w, atw) = mem-at j in elim (ℕ-discrete w l) [
-            | yes e ↦ subst (λ y. HoldsIn h y zero) (at-unique (m .query .atoms) l at (subst (λ v. At (m .query .atoms) v x) e atw)) held
+            | yes e ↦ subst (λ y. HoldsIn h y zero) (at-equal (m .query .atoms) (sym e) at atw) held
             | no d ↦ (let (n, w₀) = budget-at (λ b j. HoldsIn h b j × (j ≤ zero)) (dropAt (m .query .atoms) l) rest (mem-dropAt (m .query .atoms) l w atw d) budget in
                 let z : n ≡ zero = omega (arith, w₀ .1) in subst (λ k. HoldsIn h x k) z (w₀ .0))
           ]

@@ -1,30 +1,22 @@
 -- Whatever a member finds, the question finds, after as many rounds as there are rule steps behind the member.
-use mathlib.Core.Path.{_≡_, refl, sym, ap, _∙_, subst}
-use mathlib.Core.Logic.{_⊎_, inl, inr, _≢_}
-use Prim.Native.Nat.{ℕ, zero, suc, _+_, _≤_, _<_, max, zero-le}
-use native.Mathlib.Nat.{le-refl, zero-add, not-suc-le-zero, eq-or-lt-of-le, le-of-suc-le-suc}
+use mathlib.Core.Path.{_≡_, sym, ap, _∙_, subst}
+use mathlib.Core.Logic.{inl, inr}
+use Prim.Native.Nat.{ℕ, suc, _+_, _≤_, _<_, max, zero-le}
+use native.Mathlib.Nat.{zero-add, not-suc-le-zero, eq-or-lt-of-le, le-of-suc-le-suc}
 use native.Mathlib.Omega.{arith}
-use mathlib.Core.Bool.{Bool, true, false}
-use mathlib.Core.Option.{Option, none, some}
 use mathlib.Core.List.{List, [], _∷_, _++_, foldr}
 use lib.Dec.{eqb}
 use lib.ListN.{length, getElem?, getD, length-append, List·getD-append}
 use lib.Seq.{getD-append-seam}
-use Rattle.theory.specs.Lists.{_∈_, At, pick}
+use Rattle.theory.specs.Lists.{At, pick}
 use Rattle.theory.specs.Syntax.{Rule, Query, Member, UCQ, Fact}
 use Rattle.theory.specs.Chase.{Round, Answer, FirstReader}
-use Rattle.theory.specs.Rewriting.{ruleStep, mergeStep}
 use Rattle.theory.specs.Renaming.{Alike}
-use Rattle.theory.specs.Union.{Accepted, Yields, noStep, depthsAfter, depth}
-use Rattle.theory.specs.Laws.Lists.{T-eqb, pick-true, pick-false, mem-at, at-lt, at-unique}
-use Rattle.theory.specs.Laws.Soundness.{alike-answer, answer-later, merge-sound, rule-sound}
-
--- ---- on lists
-
-pub getD-max : (xs : List ℕ) (j : ℕ) → getD xs j 0 ≤ foldr max 0 xs
-getD-max [] j = le-refl 0
-getD-max (x ∷ xs) zero = omega arith
-getD-max (x ∷ xs) (suc j) = let h : getD xs j 0 ≤ foldr max 0 xs = getD-max xs j in omega arith
+use Rattle.theory.specs.Union.{Accepted, Yields, depthsAfter, depth}
+use Rattle.theory.specs.Laws.Options.{T-eqb, pick-true, pick-false}
+use Rattle.theory.specs.Laws.Lists.{getD-max, mem-at, at-lt, at-equal, at-unique}
+use Rattle.theory.specs.Laws.Chase.{alike-answer, answer-later}
+use Rattle.theory.specs.Laws.Soundness.{merge-sound, rule-sound}
 
 -- the number of rule steps behind a member, from the numbers of the members before it
 abbrev depthOf : List ℕ → Member → ℕ
@@ -42,6 +34,7 @@ module _ (rules : List Rule) (q : Query) (union : UCQ) (accepted : Accepted rule
   abbrev Reaches : ℕ → Query → Type 0
   Reaches d p = (tuple : List ℕ) (n m : ℕ) → d + n ≤ m → Answer (Round rules facts n) p tuple → Answer (Round rules facts m) q tuple
 
+  -- so it is for every member whose number of rule steps is known
   abbrev Known : List ℕ → Type 0
   Known known = (j : ℕ) (m : Member) → j < length known → At union j m → Reaches (getD known j 0) (m .query)
 
@@ -52,21 +45,20 @@ module _ (rules : List Rule) (q : Query) (union : UCQ) (accepted : Accepted rule
   reaches-later : (known : List ℕ) (m : Member) → Known known → 0 < length known → At union (length known) m → Reaches (depthOf known m) (m .query)
   reaches-later known m below pos at tuple n k l w = go (accepted .later (length known) m pos at)
     where
-      p : ℕ
-      p = m .step .parent
+      d : ℕ
+      d = getD known (m .step .parent) 0
 
       go : (r : Query) × Yields rules union (length known) (m .step) r × Alike r (m .query) → Answer (Round rules facts k) q tuple
-      go y = elim (y .1 .3) [
-        | inl s ↦ below p (y .1 .1) (y .1 .0) (y .1 .2) tuple (suc n) k
-            (let e : depthOf known m ≡ suc (getD known p 0) = pick-true (eqb (m .step .kind) 1) (suc (getD known p 0)) (getD known p 0) (T-eqb (m .step .kind) 1 .1 (s .0)) in omega arith)
-            (rule-sound rules facts n (y .1 .1 .query) (y .0) (m .step .atom) (m .step .other) tuple (s .1) (alike-answer (Round rules facts n) (y .0) (m .query) tuple (y .2) w))
-        | inr s ↦ below p (y .1 .1) (y .1 .0) (y .1 .2) tuple n k
-            (let e : depthOf known m ≡ getD known p 0 = pick-false (eqb (m .step .kind) 1) (suc (getD known p 0)) (getD known p 0) (λ t. two (s .0) (T-eqb (m .step .kind) 1 .0 t)) in omega arith)
-            (merge-sound (Round rules facts n) (y .1 .1 .query) (y .0) (m .step .atom) (m .step .other) tuple (s .1) (alike-answer (Round rules facts n) (y .0) (m .query) tuple (y .2) w))
-      ]
-        where
-          two : m .step .kind ≡ 2 → m .step .kind ≡ 1 → ⊥
-          two d e = omega arith
+      go (r, (before, p, place, made), alike) =
+          let found : Answer (Round rules facts n) r tuple = alike-answer (Round rules facts n) r (m .query) tuple alike w in
+          elim made [
+            | inl s ↦ below (m .step .parent) p before place tuple (suc n) k
+                (let e : depthOf known m ≡ suc d = pick-true (eqb (m .step .kind) 1) (suc d) d (T-eqb (m .step .kind) 1 .1 (s .0)) in omega arith)
+                (rule-sound rules facts n (p .query) r (m .step .atom) (m .step .other) tuple (s .1) found)
+            | inr s ↦ below (m .step .parent) p before place tuple n k
+                (let e : depthOf known m ≡ d = pick-false (eqb (m .step .kind) 1) (suc d) d (λ t. let f = T-eqb (m .step .kind) 1 .0 t in let g = s .0 in omega arith) in omega arith)
+                (merge-sound (Round rules facts n) (p .query) r (m .step .atom) (m .step .other) tuple (s .1) found)
+          ]
 
   reaches-next : (known : List ℕ) (m : Member) → Known known → At union (length known) m → Reaches (depthOf known m) (m .query)
   reaches-next known m below at =
@@ -79,7 +71,7 @@ module _ (rules : List Rule) (q : Query) (union : UCQ) (accepted : Accepted rule
   known-next known m below at j p l atj =
       elim (eq-or-lt-of-le (le-of-suc-le-suc {n = j} {m = length known} (omega (arith, length-append known (depthOf known m ∷ []))))) [
         | inl e ↦ subst (λ d. Reaches d (p .query)) (sym (ap (λ i. getD (known ++ (depthOf known m ∷ [])) i 0) e ∙ getD-append-seam known (depthOf known m) [] 0))
-            (subst (λ (n : Member). Reaches (depthOf known m) (n .query)) (at-unique union (length known) at (subst (λ i. At union i p) e atj)) (reaches-next known m below at))
+            (subst (λ (n : Member). Reaches (depthOf known m) (n .query)) (at-equal union (sym e) at atj) (reaches-next known m below at))
         | inr k ↦ subst (λ d. Reaches d (p .query)) (sym (List·getD-append known (depthOf known m ∷ []) 0 j k)) (below j p k atj)
       ]
 

@@ -10,11 +10,11 @@ use lib.Dec.{T}
 use Rattle.theory.specs.Lists.{_∈_, pick, any}
 use Rattle.theory.specs.Syntax.{Term, var, const, Query, terms, sameTerm}
 use Rattle.theory.specs.Rewriting.{bound, lowest, fresh}
+use Rattle.theory.specs.Laws.Lists.{any-same}
 use Rattle.theory.specs.Laws.Syntax.{sameTerm-iff}
-use Rattle.theory.specs.Laws.Unbound.{any-same}
 
 -- every variable among the terms is below their bound
-pub bound-above : (ts : List Term) (v : ℕ) → var v ∈ ts → v < bound ts
+bound-above : (ts : List Term) (v : ℕ) → var v ∈ ts → v < bound ts
 unfolding bound
 bound-above (var u ∷ ts) v (List·Memᴰ·head e) = let d : v ≡ u = cc in omega arith
 bound-above (var u ∷ ts) v (List·Memᴰ·tail m) = let h : v < bound ts = bound-above ts v m in omega arith
@@ -22,7 +22,7 @@ bound-above (const c ∷ ts) v (List·Memᴰ·head e) = absurd (let z : _≡_ {A
 bound-above (const c ∷ ts) v (List·Memᴰ·tail m) = bound-above ts v m
 
 -- the number found stands nowhere, if enough are tried
-pub lowest-new : (tries v : ℕ) (ts : List Term) → bound ts ≤ v + tries → ¬ (var (lowest tries v ts) ∈ ts)
+lowest-new : (tries v : ℕ) (ts : List Term) → bound ts ≤ v + tries → ¬ (var (lowest tries v ts) ∈ ts)
 unfolding lowest
 lowest-new zero v ts h m = let l : v < bound ts = bound-above ts v m in omega arith
 lowest-new (suc tries) v ts h m = go (any (sameTerm (var v)) ts) refl (lowest-new tries (suc v) ts (omega arith)) m
@@ -32,7 +32,7 @@ lowest-new (suc tries) v ts h m = go (any (sameTerm (var v)) ts) refl (lowest-ne
     go false e below n = subst T e (any-same sameTerm sameTerm-iff (var v) ts .1 n)
 
 -- every number passed over stands among the terms
-pub lowest-passed : (tries v : ℕ) (ts : List Term) (u : ℕ) → v ≤ u → u < lowest tries v ts → var u ∈ ts
+lowest-passed : (tries v : ℕ) (ts : List Term) (u : ℕ) → v ≤ u → u < lowest tries v ts → var u ∈ ts
 unfolding lowest
 lowest-passed zero v ts u h k = absurd (omega arith)
 lowest-passed (suc tries) v ts u h k = go (any (sameTerm (var v)) ts) refl (λ l n. lowest-passed tries (suc v) ts u l n) k

@@ -1,14 +1,14 @@
 -- A list of numbered tests gives the number of the first of the conditions that the tests decide.
 use mathlib.Core.Path.{_≡_, refl, sym}
-use mathlib.Core.Logic.{_⊎_, inl, inr, _↔_}
+use mathlib.Core.Logic.{inl, inr, _↔_}
 use Prim.Native.Nat.{ℕ}
 use mathlib.Core.Bool.{Bool, true, false}
-use mathlib.Core.Option.{Option, none, some}
+use mathlib.Core.Option.{none, some}
 use mathlib.Core.List.{List, [], _∷_}
 use lib.Dec.{T}
 use Rattle.theory.specs.Lists.{pick}
 use Rattle.theory.specs.Refusals.{firstRefusal, First, NoneHolds}
-use Rattle.theory.specs.Laws.Lists.{none≢some, some-inj}
+use Rattle.theory.specs.Laws.Options.{none≢some, some-inj}
 
 -- the tests and the conditions are as many, with the same numbers, and each test decides its condition
 abbrev pub Decides : List (ℕ × Bool) → List {1} (ℕ × Type 0) → Type 0

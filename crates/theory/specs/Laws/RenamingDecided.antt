@@ -4,33 +4,28 @@ use mathlib.Core.Logic.{_⊎_, inl, inr, _↔_}
 use Prim.Native.Nat.{ℕ}
 use mathlib.Core.Bool.{Bool, _&&_}
 use mathlib.Core.Option.{Option, none, some}
-use mathlib.Core.List.{List, [], _∷_, List·Memᴰ·tail, List·Memᴰ·not-nil, List·Memᴰ·cases-cons, Memᴰ·map, Memᴰ·cast}
+use mathlib.Core.List.{List, [], _∷_, List·Memᴰ·tail, List·Memᴰ·not-nil, List·Memᴰ·cases-cons, Memᴰ·cast}
 use lib.Dec.{T, eqb}
 use Rattle.theory.specs.Lists.{_∈_, Unrepeated, any, all, without, pairwise, isSome, Pairs, lookup}
-use Rattle.theory.specs.Syntax.{Term, var, const, Atom, concept, role, Query, args, terms, mapAtom, rename, onAtoms}
+use Rattle.theory.specs.Syntax.{Term, var, const, Atom, Query, terms, mapAtom, rename, onAtoms}
 use Rattle.theory.specs.Renaming.{Alike, variables, mayGo, mayBe, promising, complete, findRenaming, alike}
-use Rattle.theory.specs.Laws.Lists.{T-and, T-no, T-eqb, some-inj, none≢some, isSome-some, here, forall-cons, any-iff, mem-without, without-mem}
-use Rattle.theory.specs.Laws.Syntax.{OnAtoms, onAtoms-fwd, onAtoms-bwd, onAtoms-map, map-args, terms-atoms, terms-answers, terms-cases}
-use Rattle.theory.specs.Laws.Lookup.{mem-along, all-any-iff, pairwise-image, image-pairwise, firstSome-found, firstSome-of, tested-found, tested-of, Assigned, lookup-head, lookup-cons, assigned-cons, lookup-found, mem-assigned}
-use Rattle.theory.specs.Laws.Variables.{ascending-unrepeated, variables-ascending, variables-mem, mem-variables}
+use Rattle.theory.specs.Laws.Options.{T-and, T-no, T-eqb, some-inj, none≢some, isSome-some, tested-found, tested-of}
+use Rattle.theory.specs.Laws.Lists.{here, forall-cons, any-iff, mem-without, without-mem, all-any-iff, pairwise-image, image-pairwise, firstSome-found, firstSome-of}
+use Rattle.theory.specs.Laws.Lookup.{Assigned, lookup-head, lookup-cons, assigned-cons, lookup-found, mem-assigned}
+use Rattle.theory.specs.Laws.Syntax.{onAtoms-iff, onAtoms-within, onAtoms-map, terms-atoms, terms-answers}
+use Rattle.theory.specs.Laws.Equivalence.{term-into}
+use Rattle.theory.specs.Laws.Variables.{variables-unrepeated, variables-mem, mem-variables}
 
 -- ---- what the test of pairs means
 
--- atoms related place by place stay so where the one relation gives the other
-pub onAtoms-within : {X Y : Type 0} {R S : X → Y → Type 0} (a : Atom X) (b : Atom Y) → ((x : X) (y : Y) → x ∈ args a → R x y → S x y) → OnAtoms R a b → OnAtoms S a b
-onAtoms-within (concept A x) (concept B y) h r = (r .0, h x y here (r .1))
-onAtoms-within (concept A x) (role Q y y′) h r = r
-onAtoms-within (role P x x′) (concept B y) h r = r
-onAtoms-within (role P x x′) (role Q y y′) h r = (r .0, h x y here (r .1), h x′ y′ (List·Memᴰ·tail here) (r .2))
-
 -- what `promising` tests: each answer term may be its partner, each atom of the one may be some atom of the other
-abbrev pub Promising : Query → Query → Pairs → Type 0
+abbrev Promising : Query → Query → Pairs → Type 0
 Promising p q ps =
     T (pairwise (mayBe ps) (p .answers) (q .answers))
     × ((a : Atom Term) → a ∈ p .atoms → (b : Atom Term) × (b ∈ q .atoms) × T (onAtoms (mayBe ps) a b))
     × ((b : Atom Term) → b ∈ q .atoms → (a : Atom Term) × (a ∈ p .atoms) × T (onAtoms (mayBe ps) a b))
 
-pub promising-iff : (p q : Query) (ps : Pairs) → T (promising p q ps) ↔ Promising p q ps
+promising-iff : (p q : Query) (ps : Pairs) → T (promising p q ps) ↔ Promising p q ps
 unfolding promising
 promising-iff p q ps =
     let answers : Bool = pairwise (mayBe ps) (p .answers) (q .answers) in
@@ -124,9 +119,9 @@ renaming-of p q ps t o assigned =
     image-atom : (a b : Atom Term) → a ∈ p .atoms → T (onAtoms (mayBe ps) a b) → mapAtom (rename (target ps)) a ≡ b
     image-atom a b m t =
         onAtoms-map (rename (target ps)) a b .0
-        (onAtoms-within a b (λ s t n. image s t (terms-atoms p m n)) (onAtoms-fwd (mayBe ps) (λ s t. T (mayBe ps s t)) (λ s t x. x) a b t))
+        (onAtoms-within a b (λ s t n. image s t (terms-atoms p m n)) (onAtoms-iff (mayBe ps) a b .0 t))
 
-pub alike-sound : (p q : Query) → T (alike p q) → Alike p q
+alike-sound : (p q : Query) → T (alike p q) → Alike p q
 unfolding alike lookup
 alike-sound p q t =
     let r = isSome-some (findRenaming p q) .0 t in
@@ -137,14 +132,6 @@ alike-sound p q t =
 -- ---- where there is a renaming the search gives one
 
 module _ (p q : Query) (r : Alike p q) where
-  -- the terms of p go to terms of q
-  renamed-term : {t : Term} → t ∈ terms p → rename (r .to) t ∈ terms q
-  renamed-term m =
-      elim (terms-cases p m) [
-        | inl n ↦ terms-answers q (mem-along (r .on-answers) (Memᴰ·map (rename (r .to)) n))
-        | inr n ↦ terms-atoms q (r .into (n .0) (n .1)) (map-args (rename (r .to)) (n .0) (n .2))
-      ]
-
   -- every pair is a variable of p and where it goes
   abbrev Follows : Pairs → Type 0
   Follows ps = (e : ℕ × ℕ) → e ∈ ps → (var (e .0) ∈ terms p) × (r .to (e .0) ≡ e .1)
@@ -177,7 +164,7 @@ module _ (p q : Query) (r : Alike p q) where
     where
       on-atom : (a b : Atom Term) → a ∈ p .atoms → mapAtom (rename (r .to)) a ≡ b → T (onAtoms (mayBe ps) a b)
       on-atom a b m e =
-          onAtoms-bwd (mayBe ps) (λ s t. T (mayBe ps s t)) (λ s t x. x) a b
+          onAtoms-iff (mayBe ps) a b .1
           (onAtoms-within a b (λ s t n d. subst (λ t. T (mayBe ps s t)) d (follows-mayBe ps f s (terms-atoms p m n))) (onAtoms-map (rename (r .to)) a b .1 e))
 
   -- such pairs can be completed, as long as the sources left stand in p, each once, and their targets are free
@@ -203,13 +190,12 @@ module _ (p q : Query) (r : Alike p q) where
                 u .0 (Memᴰ·cast (r .one-to-one v x (h v here .0) (k .0) (T-eqb (r .to v) (r .to x) .0 t)) m)),
           )
 
-pub alike-complete : (p q : Query) → Alike p q → T (alike p q)
+alike-complete : (p q : Query) → Alike p q → T (alike p q)
 unfolding alike
 alike-complete p q r =
     tested-of (promising p q []) (complete p q (variables (terms p)) (variables (terms q)) []) (follows-promising p q r [] none-yet)
     (complete-gives p q r (variables (terms p)) (variables (terms q)) [] none-yet
-    (ascending-unrepeated (variables (terms p)) (variables-ascending (terms p)))
-    (λ v m. (let n = variables-mem (terms p) m in (n, mem-variables (terms q) (renamed-term p q r n)))))
+    (variables-unrepeated (terms p)) (λ v m. (let n = variables-mem (terms p) m in (n, mem-variables (terms q) (term-into p q r n)))))
   where
     none-yet : Follows p q r []
     none-yet e m = absurd (List·Memᴰ·not-nil m)

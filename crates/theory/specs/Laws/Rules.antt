@@ -1,36 +1,22 @@
 -- All that the theorem uses of a rule: what it concludes, how it rewrites an atom, and what the one has to do with the other.
 -- Only this file looks at the kinds of rules. A kind that concludes nothing and fits no atom costs one clause in each law.
 use mathlib.Core.Path.{_≡_, refl, sym, ap, ap₂, _∙_, subst}
-use mathlib.Core.Logic.{_⊎_, inl, inr, _↔_, _≢_}
-use Prim.Native.Nat.{ℕ, zero, suc}
+use mathlib.Core.Logic.{_⊎_, inl, inr, _≢_}
+use Prim.Native.Nat.{ℕ}
 use native.Mathlib.Omega.{arith}
 use mathlib.Core.Bool.{Bool, true, false, _&&_}
-use mathlib.Core.Option.{Option, none, some}
-use mathlib.Core.List.{List, [], _∷_, _++_, map, List·Memᴰ·head, List·Memᴰ·tail, List·Memᴰ·not-nil, List·Memᴰ·cases-cons, Memᴰ·cast}
+use mathlib.Core.Option.{some}
+use mathlib.Core.List.{List·Memᴰ·head, List·Memᴰ·tail, List·Memᴰ·cases-cons, List·Memᴰ·eq-of-singleton, Memᴰ·cast}
 use lib.Dec.{T, eqb}
-use Rattle.theory.specs.Lists.{_∈_, At, pick, guard, andThen, count}
+use Rattle.theory.specs.Lists.{_∈_, At, guard, andThen, count}
 use Rattle.theory.specs.Syntax.{Term, var, const, Atom, concept, role, Basic, named, has, hasInverse, Rule, conceptInclusion, roleInclusion, Query, Thing, object, null, args, terms, mapAtom, value, instance, oriented, sameTerm}
 use Rattle.theory.specs.Chase.{Held, Concludes}
 use Rattle.theory.specs.Rewriting.{unbound, fresh, bearer, rewriteAtom}
-use Rattle.theory.specs.Laws.Lists.{T-and, T-eqb, is-true, is-false, either, guard-some, guard-true, andThen-some, andThen-at, some-inj, none≢some, pick-true, pick-false, here, at-mem}
-use Rattle.theory.specs.Laws.Syntax.{sameTerm-iff, mapAtom-agree, terms-atoms, terms-answers}
-use Rattle.theory.specs.Laws.Unbound.{unbound-answers, unbound-elsewhere, unbound-once}
+use Rattle.theory.specs.Laws.Options.{T-and, T-eqb, is-true, is-false, either, guard-some, guard-true, andThen-some, andThen-at, some-inj, none≢some}
+use Rattle.theory.specs.Laws.Lists.{here, at-mem}
+use Rattle.theory.specs.Laws.Syntax.{update, update-same, send-update, sameTerm-iff, mapAtom-agree, terms-atoms}
+use Rattle.theory.specs.Laws.Unbound.{standing, unbound-answers, unbound-elsewhere, unbound-once}
 use Rattle.theory.specs.Laws.Fresh.{fresh-new}
-
--- ---- a match changed at one variable
-
-abbrev pub update : {X : Type 0} → (ℕ → X) → ℕ → X → ℕ → X
-update h x y v = pick (eqb v x) y (h v)
-
-pub update-same : {X : Type 0} (h : ℕ → X) (x : ℕ) (y : X) → update h x y x ≡ y
-update-same h x y = pick-true (eqb x x) y (h x) (T-eqb x x .1 refl)
-
-pub update-other : {X : Type 0} (h : ℕ → X) (x : ℕ) (y : X) (v : ℕ) → v ≢ x → update h x y v ≡ h v
-update-other h x y v d = pick-false (eqb v x) y (h v) (λ t. d (T-eqb v x .0 t))
-
-pub value-update : (h : ℕ → Thing) (x : ℕ) (y : Thing) (t : Term) → t ≢ var x → value (update h x y) t ≡ value h t
-value-update h x y (var v) d = update-other h x y v (λ e. d (ap var e))
-value-update h x y (const c) d = refl
 
 -- ---- descriptions
 
@@ -41,46 +27,47 @@ Plain (has P) = ⊥
 Plain (hasInverse P) = ⊥
 
 module _ {X : Type 0} where
-  pub instance-plain : (B : Basic) (x y y′ : X) → Plain B → instance B x y ≡ instance B x y′
+  instance-plain : (B : Basic) (x y y′ : X) → Plain B → instance B x y ≡ instance B x y′
   instance-plain (named A) x y y′ p = refl
   instance-plain (has P) x y y′ p = absurd p
   instance-plain (hasInverse P) x y y′ p = absurd p
 
-  pub instance-bearer : (B : Basic) (x y : X) → x ∈ args (instance B x y)
+  instance-bearer : (B : Basic) (x y : X) → x ∈ args (instance B x y)
   instance-bearer (named A) x y = here
   instance-bearer (has P) x y = here
   instance-bearer (hasInverse P) x y = List·Memᴰ·tail here
 
-  pub instance-other : (B : Basic) (x y : X) → ¬ Plain B → y ∈ args (instance B x y)
+  instance-other : (B : Basic) (x y : X) → ¬ Plain B → y ∈ args (instance B x y)
   instance-other (named A) x y n = absurd (n tt)
   instance-other (has P) x y n = List·Memᴰ·tail here
   instance-other (hasInverse P) x y n = here
 
   -- what stands in a description's instance
-  pub instance-args : (B : Basic) (x y z : X) → z ∈ args (instance B x y) → (z ≡ x) ⊎ ((¬ Plain B) × (z ≡ y))
-  instance-args (named A) x y z m = elim (List·Memᴰ·cases-cons m) [ inl e ↦ inl e | inr n ↦ absurd (List·Memᴰ·not-nil n) ]
-  instance-args (has P) x y z m =
-      elim (List·Memᴰ·cases-cons m) [
-        | inl e ↦ inl e
-        | inr n ↦ elim (List·Memᴰ·cases-cons n) [ inl e ↦ inr (λ p. p, e) | inr k ↦ absurd (List·Memᴰ·not-nil k) ]
-      ]
-  instance-args (hasInverse P) x y z m =
-      elim (List·Memᴰ·cases-cons m) [
-        | inl e ↦ inr (λ p. p, e)
-        | inr n ↦ elim (List·Memᴰ·cases-cons n) [ inl e ↦ inl e | inr k ↦ absurd (List·Memᴰ·not-nil k) ]
-      ]
+  instance-args : (B : Basic) (x y z : X) → z ∈ args (instance B x y) → (z ≡ x) ⊎ ((¬ Plain B) × (z ≡ y))
+  instance-args (named A) x y z m = inl (List·Memᴰ·eq-of-singleton m)
+  instance-args (has P) x y z m = elim (List·Memᴰ·cases-cons m) [ inl e ↦ inl e | inr n ↦ inr (λ p. p, List·Memᴰ·eq-of-singleton n) ]
+  instance-args (hasInverse P) x y z m = elim (List·Memᴰ·cases-cons m) [ inl e ↦ inr (λ p. p, e) | inr n ↦ inl (List·Memᴰ·eq-of-singleton n) ]
 
-pub mapAtom-instance : {X Y : Type 0} (f : X → Y) (B : Basic) (x y : X) → mapAtom f (instance B x y) ≡ instance B (f x) (f y)
+mapAtom-instance : {X Y : Type 0} (f : X → Y) (B : Basic) (x y : X) → mapAtom f (instance B x y) ≡ instance B (f x) (f y)
 mapAtom-instance f (named A) x y = refl
 mapAtom-instance f (has P) x y = refl
 mapAtom-instance f (hasInverse P) x y = refl
 
-pub mapAtom-oriented : {X Y : Type 0} (f : X → Y) (b : Bool) (P : ℕ) (x y : X) → mapAtom f (oriented b P x y) ≡ oriented b P (f x) (f y)
+mapAtom-oriented : {X Y : Type 0} (f : X → Y) (b : Bool) (P : ℕ) (x y : X) → mapAtom f (oriented b P x y) ≡ oriented b P (f x) (f y)
 mapAtom-oriented f false P x y = refl
 mapAtom-oriented f true P x y = refl
 
+-- the two ways round have the same terms
+oriented-args : {X : Type 0} (b : Bool) (P Q : ℕ) (x y z : X) → z ∈ args (oriented b P x y) → z ∈ args (role Q x y)
+oriented-args false P Q x y z m = m
+oriented-args true P Q x y z m =
+    elim (List·Memᴰ·cases-cons m) [
+      | inl e ↦ List·Memᴰ·tail (List·Memᴰ·head e)
+      | inr n ↦ List·Memᴰ·head (List·Memᴰ·eq-of-singleton n)
+    ]
+
 -- an atom whose image is a description's instance is one itself
-pub instance-image : {X Y : Type 0} (f : X → Y) (B : Basic) (a : Atom X) (x y : Y) → mapAtom f a ≡ instance B x y
+instance-image : {X Y : Type 0} (f : X → Y) (B : Basic) (a : Atom X) (x y : Y) → mapAtom f a ≡ instance B x y
     → (s t : X) × (a ≡ instance B s t) × (f s ≡ x) × (Plain B ⊎ ((¬ Plain B) × (f t ≡ y)))
 instance-image f (named A) (concept B s) x y e = (s, s, (let d : B ≡ A = cc in ap (λ R. concept R s) d), cc, inl tt)
 instance-image f (named A) (role Q s t) x y e = absurd (let z : _≡_ {A = ℕ} 0 1 = cc in omega arith)
@@ -91,24 +78,25 @@ instance-image f (hasInverse P) (role Q t s) x y e = (s, t, (let d : Q ≡ P = c
 
 -- ---- the term of which an atom says a description
 
-pub bearer-some : (q : Query) (B : Basic) (a : Atom Term) {t : Term} → bearer q B a ≡ some t
+-- a role atom whose other term is unbound
+bearer-role : (q : Query) (P Q : ℕ) (s u : Term) {t : Term} → guard (eqb P Q && unbound q u) s ≡ some t → (P ≡ Q) × (s ≡ t) × T (unbound q u)
+bearer-role q P Q s u e =
+    let g = guard-some (eqb P Q && unbound q u) e in
+    let w = T-and (eqb P Q) (unbound q u) .0 (g .0) in
+    (T-eqb P Q .0 (w .0), g .1, w .1)
+
+bearer-some : (q : Query) (B : Basic) (a : Atom Term) {t : Term} → bearer q B a ≡ some t
     → (u : Term) × (a ≡ instance B t u) × (Plain B ⊎ ((¬ Plain B) × T (unbound q u)))
 unfolding bearer
 bearer-some q (named A) (concept B s) {t} e =
     let g = guard-some (eqb A B) e in let d : A ≡ B = T-eqb A B .0 (g .0) in let f : s ≡ t = g .1 in (t, cc, inl tt)
 bearer-some q (named A) (role Q s u) e = absurd (none≢some e)
 bearer-some q (has P) (concept B s) e = absurd (none≢some e)
-bearer-some q (has P) (role Q s u) {t} e =
-    let g = guard-some (eqb P Q && unbound q u) e in
-    let w = T-and (eqb P Q) (unbound q u) .0 (g .0) in
-    let d : P ≡ Q = T-eqb P Q .0 (w .0) in let f : s ≡ t = g .1 in (u, cc, inr (λ p. p, w .1))
+bearer-some q (has P) (role Q s u) {t} e = let w = bearer-role q P Q s u e in let d : P ≡ Q = w .0 in let f : s ≡ t = w .1 in (u, cc, inr (λ p. p, w .2))
 bearer-some q (hasInverse P) (concept B s) e = absurd (none≢some e)
-bearer-some q (hasInverse P) (role Q u s) {t} e =
-    let g = guard-some (eqb P Q && unbound q u) e in
-    let w = T-and (eqb P Q) (unbound q u) .0 (g .0) in
-    let d : P ≡ Q = T-eqb P Q .0 (w .0) in let f : s ≡ t = g .1 in (u, cc, inr (λ p. p, w .1))
+bearer-some q (hasInverse P) (role Q u s) {t} e = let w = bearer-role q P Q s u e in let d : P ≡ Q = w .0 in let f : s ≡ t = w .1 in (u, cc, inr (λ p. p, w .2))
 
-pub bearer-of : (q : Query) (B : Basic) (t u : Term) → Plain B ⊎ T (unbound q u) → bearer q B (instance B t u) ≡ some t
+bearer-of : (q : Query) (B : Basic) (t u : Term) → Plain B ⊎ T (unbound q u) → bearer q B (instance B t u) ≡ some t
 unfolding bearer
 bearer-of q (named A) t u p = guard-true (eqb A A) (T-eqb A A .1 refl)
 bearer-of q (has P) t u p = guard-true (eqb P P && unbound q u) (T-and (eqb P P) (unbound q u) .1 (T-eqb P P .1 refl, elim p [ inl x ↦ absurd x | inr y ↦ y ]))
@@ -134,15 +122,7 @@ concludes-args H i (conceptInclusion left right) a z w m =
       | inr p ↦ inr (w .0, p .1, (p .0, w .3))
     ]
 concludes-args H i (roleInclusion left exchanged right) a z w m =
-    inl (role left (w .0) (w .1), w .2, both exchanged (subst (λ b. z ∈ args b) (w .3) m))
-  where
-    both : (e : Bool) → z ∈ args (oriented e right (w .0) (w .1)) → z ∈ args (role left (w .0) (w .1))
-    both false n = n
-    both true n =
-        elim (List·Memᴰ·cases-cons n) [
-          | inl e ↦ List·Memᴰ·tail (List·Memᴰ·head e)
-          | inr k ↦ elim (List·Memᴰ·cases-cons k) [ inl e ↦ List·Memᴰ·head e | inr j ↦ absurd (List·Memᴰ·not-nil j) ]
-        ]
+    inl (role left (w .0) (w .1), w .2, oriented-args exchanged right left (w .0) (w .1) z (subst (λ b. z ∈ args b) (w .3) m))
 
 -- ---- a rule that rewrites an atom concludes it
 
@@ -159,9 +139,9 @@ update-unbound : (q : Query) (i u : ℕ) (a : Atom Term) (h : ℕ → Thing) (y 
     → ((t : Term) → t ∈ q .answers → value (update h u y) t ≡ value h t)
     × ((j : ℕ) (c : Atom Term) → At (q .atoms) j c → j ≢ i → mapAtom (value (update h u y)) c ≡ mapAtom (value h) c)
 update-unbound q i u a h y at un m = (
-  λ t n. value-update h u y t (λ e. unbound-answers q u un (Memᴰ·cast (sym e) n)),
+  λ t n. send-update object h u y t (λ e. unbound-answers q u un (Memᴰ·cast (sym e) n)),
   λ j c atc d. mapAtom-agree (value (update h u y)) (value h) c
-      (λ t n. value-update h u y t (λ e. d (sym (unbound-elsewhere q u i j a c un at atc m (Memᴰ·cast (sym e) n))))),
+      (λ t n. send-update object h u y t (λ e. d (sym (unbound-elsewhere q u i j a c un at atc m (Memᴰ·cast (sym e) n))))),
 )
 
 unbound-const : (q : Query) (c : ℕ) → T (unbound q (const c)) → ⊥
@@ -195,7 +175,7 @@ instance-sound q H i k left right t (var x) z h at (inr w) holds = (
     value h t,
     h z,
     subst H (mapAtom-instance (value h) left t (var z)) holds,
-    mapAtom-instance (value (update h x new)) right t (var x) ∙ ap₂ (instance right) (value-update h x new t apart) (update-same h x new),
+    mapAtom-instance (value (update h x new)) right t (var x) ∙ ap₂ (instance right) (send-update object h x new t apart) (update-same h x new),
   ),
   rest .0,
   rest .1,
@@ -241,23 +221,24 @@ Rewritten q H r a h =
 abbrev pub AtBound : Query → ℕ → Rule → Atom Term → (ℕ → Thing) → Type 0
 AtBound q k r a h =
     (u : ℕ) × (c : Thing) × (h u ≡ null k c) × Makes k r c (mapAtom (value h) a)
-    × (count (sameTerm (var u)) (args a) ≡ 1) × (¬ T (unbound q (var u)))
+    × (standing u a ≡ 1) × (¬ T (unbound q (var u)))
 
--- no thing is a null of itself
+-- a null is fixed by rule index and bearer, and is not its own bearer
 pub null-inj : (i j : ℕ) (c d : Thing) → null i c ≡ null j d → (i ≡ j) × (c ≡ d)
 null-inj i j c d e = (cc, cc)
 
-pub null-grows : (k : ℕ) (c : Thing) → ¬ (c ≡ null k c)
+null-grows : (k : ℕ) (c : Thing) → ¬ (c ≡ null k c)
 null-grows k (object o) e = let z : _≡_ {A = ℕ} 0 1 = cc in omega arith
 null-grows k (null j c) e =
     let w = null-inj j k c (null j c) e in
     null-grows k c (w .1 ∙ ap (λ i. null i c) (w .0))
 
-count-instance : (B : Basic) (t : Term) (u : ℕ) → ¬ Plain B → t ≢ var u → count (sameTerm (var u)) (args (instance B t (var u))) ≡ 1
+-- the other term stands once in a description's instance
+standing-instance : (B : Basic) (t : Term) (u : ℕ) → ¬ Plain B → t ≢ var u → standing u (instance B t (var u)) ≡ 1
 unfolding count
-count-instance (named A) t u n d = absurd (n tt)
-count-instance (has P) t u n d = rw (is-false (sameTerm (var u) t) (λ x. d (sym (sameTerm-iff (var u) t .0 x))), is-true (sameTerm (var u) (var u)) (sameTerm-iff (var u) (var u) .1 refl))
-count-instance (hasInverse P) t u n d = rw (is-false (sameTerm (var u) t) (λ x. d (sym (sameTerm-iff (var u) t .0 x))), is-true (sameTerm (var u) (var u)) (sameTerm-iff (var u) (var u) .1 refl))
+standing-instance (named A) t u n d = absurd (n tt)
+standing-instance (has P) t u n d = rw (is-false (sameTerm (var u) t) (λ x. d (sym (sameTerm-iff (var u) t .0 x))), is-true (sameTerm (var u) (var u)) (sameTerm-iff (var u) (var u) .1 refl))
+standing-instance (hasInverse P) t u n d = rw (is-false (sameTerm (var u) t) (λ x. d (sym (sameTerm-iff (var u) t .0 x))), is-true (sameTerm (var u) (var u)) (sameTerm-iff (var u) (var u) .1 refl))
 
 -- the rule fits: its fresh variable is sent to the witness
 instance-rewritten : (q : Query) (H : Held) (left right : Basic) (t u : Term) (h : ℕ → Thing) (y : Thing) → t ∈ terms q
@@ -273,7 +254,7 @@ instance-rewritten q H left right t u h y m holds w = (
 )
   where
     agrees : (s : Term) → s ∈ terms q → value (update h (fresh q) y) s ≡ value h s
-    agrees s n = value-update h (fresh q) y s (λ e. fresh-new q (Memᴰ·cast (sym e) n))
+    agrees s n = send-update object h (fresh q) y s (λ e. fresh-new q (Memᴰ·cast (sym e) n))
 
 instance-complete : (q : Query) (H : Held) (k : ℕ) (left right : Basic) (t u : Term) (h : ℕ → Thing) (y : Thing) → t ∈ terms q
     → H (instance left (value h t) y) → Plain right ⊎ ((¬ Plain right) × (value h u ≡ null k (value h t)))
@@ -288,7 +269,7 @@ instance-complete q H k left right t (var v) h y m holds (inr w) =
         value h t,
         w .1,
         (w .0, mapAtom-instance (value h) right t (var v) ∙ ap (instance right (value h t)) (w .1)),
-        count-instance right t v (w .0) (λ e. null-grows k (value h t) (ap (value h) e ∙ w .1)),
+        standing-instance right t v (w .0) (λ e. null-grows k (value h t) (ap (value h) e ∙ w .1)),
         bo,
       )
     ]
@@ -319,3 +300,38 @@ concludes-rewritten q H i k (roleInclusion left exchanged right) (role Q t u) h 
     go true held e =
         let d : right ≡ Q = cc in let f : w .0 ≡ value h u = cc in let g : w .1 ≡ value h t = cc in
         (role left u t, h, guard-true (eqb right Q) (T-eqb right Q .1 d), subst H (ap₂ (role left) f g) held, λ s m. refl)
+
+-- ---- a rule makes of an atom's image the image of what it makes of the atom
+
+-- b has no other terms than a and the fresh variable
+abbrev pub Within : Query → Atom Term → Atom Term → Type 0
+Within q a b = (t : Term) → t ∈ args b → (t ∈ args a) ⊎ (t ≡ var (fresh q))
+
+-- f keeps unbound terms unbound, and g, which agrees with f on the atom, takes the fresh variable of p to that of q
+module _ (p q : Query) (f g : Term → Term) (keeps : (t : Term) → T (unbound p t) → T (unbound q (f t))) (to-fresh : g (var (fresh p)) ≡ var (fresh q)) where
+  pub rewrite-image : (r : Rule) (a b : Atom Term) → ((t : Term) → t ∈ args a → g t ≡ f t) → rewriteAtom p r a ≡ some b
+      → (rewriteAtom q r (mapAtom f a) ≡ some (mapAtom g b)) × Within p a b
+  unfolding rewriteAtom
+  rewrite-image (conceptInclusion left right) a b agree e =
+      let w = andThen-some (bearer p right a) e in
+      let s = bearer-some p right a (w .1) in
+      let d : instance left (w .0) (var (fresh p)) ≡ b = some-inj (w .2) in
+      let n : w .0 ∈ args a = subst (λ c. w .0 ∈ args c) (sym (s .1)) (instance-bearer right (w .0) (s .0)) in (
+        fits (w .0) (s .0) (s .1) (elim (s .2) [ inl x ↦ inl x | inr x ↦ inr (keeps (s .0) (x .1)) ])
+            ∙ ap some (ap₂ (instance left) (sym (agree (w .0) n)) (sym to-fresh) ∙ sym (mapAtom-instance g left (w .0) (var (fresh p))) ∙ ap (mapAtom g) d),
+        λ t k. elim (instance-args left (w .0) (var (fresh p)) t (subst (λ c. t ∈ args c) (sym d) k)) [ inl x ↦ inl (Memᴰ·cast x n) | inr x ↦ inr (x .1) ],
+      )
+    where
+      fits : (s t : Term) → a ≡ instance right s t → Plain right ⊎ T (unbound q (f t))
+          → andThen (bearer q right (mapAtom f a)) (λ x. some (instance left x (var (fresh q)))) ≡ some (instance left (f s) (var (fresh q)))
+      fits s t d x =
+          andThen-at (λ x. some (instance left x (var (fresh q))))
+          (ap (bearer q right) (ap (mapAtom f) d ∙ mapAtom-instance f right s t) ∙ bearer-of q right (f s) (f t) x)
+  rewrite-image (roleInclusion left exchanged right) (concept B t) b agree e = absurd (none≢some e)
+  rewrite-image (roleInclusion left exchanged right) (role Q s t) b agree e =
+      let w = guard-some (eqb right Q) e in
+      let within : (x : Term) → x ∈ args b → x ∈ args (role Q s t) = λ x k. oriented-args exchanged left Q s t x (subst (λ c. x ∈ args c) (sym (w .1)) k) in (
+        guard-true (eqb right Q) (w .0)
+            ∙ ap some (sym (mapAtom-oriented f exchanged left s t) ∙ ap (mapAtom f) (w .1) ∙ sym (mapAtom-agree g f b (λ x k. agree x (within x k)))),
+        λ x k. inl (within x k),
+      )

@@ -1,51 +1,61 @@
--- `steps` lists the results of the steps: all of them and nothing else.
-use mathlib.Core.Path.{_≡_}
-use mathlib.Core.Logic.{inl, inr, _↔_}
-use Prim.Native.Nat.{ℕ, zero, _<_}
+-- What a step of each kind does, and that `steps` lists the results of the steps: all of them and nothing else.
+use mathlib.Core.Path.{_≡_, refl, sym, ap, _∙_}
+use mathlib.Core.Logic.{inl, inr, _↔_, _≢_}
+use Prim.Native.Nat.{ℕ, _<_}
+use native.Mathlib.Decide.{decLt}
 use native.Mathlib.Omega.{arith}
-use mathlib.Core.Option.{Option, some}
-use mathlib.Core.List.{List, flatMap, List·Memᴰ·append-cases, Memᴰ·append-left, Memᴰ·append-right}
-use lib.Dec.{ltb}
+use mathlib.Core.Option.{none, some}
+use mathlib.Core.List.{List, List·Memᴰ·append-cases, Memᴰ·append-left, Memᴰ·append-right}
+use lib.Dec.{ltb, ltb→lt, lt→ltb}
 use lib.ListN.{length, getElem?}
-use Rattle.theory.specs.Lists.{_∈_, toList, numbers}
-use Rattle.theory.specs.Syntax.{Rule, Query}
-use Rattle.theory.specs.Rewriting.{ruleStep, mergeStep, steps, StepTo}
-use Rattle.theory.specs.Laws.Lists.{mem-toList, andThen-some, pick-some, flatMap-found, flatMap-of, mem-numbers, at-lt}
+use Rattle.theory.specs.Lists.{_∈_, At}
+use Rattle.theory.specs.Syntax.{Term, Atom, Rule, Query, mapAtom, send}
+use Rattle.theory.specs.Rewriting.{rewriteAtom, unify, changeAtom, substitute, ruleStep, mergeStep, steps, StepTo}
+use Rattle.theory.specs.Laws.Options.{pick-true, pick-some, some-inj, andThen-some, andThen-at}
+use Rattle.theory.specs.Laws.Lists.{at-lt, gathered, gathered-found, gathered-of}
+use Rattle.theory.specs.Laws.Unifier.{Unifies, unify-complete}
 
--- ---- on lists
+-- ---- a step of each kind, in one tuple
 
-module _ {X : Type 0} (f : ℕ → ℕ → Option X) (m n : ℕ) where
-  -- what f gives at two numbers, the first below m and the second below n
-  abbrev pub gathered : List X
-  gathered = flatMap (λ i. flatMap (λ k. toList (f i k)) (numbers zero n)) (numbers zero m)
+-- rule k makes an atom of the one at i, which it is changed to
+abbrev pub RuleGives : List Rule → Query → ℕ → ℕ → Query → Type 0
+RuleGives rules q i k r = (rule : Rule) × (a b : Atom Term) × At rules k rule × At (q .atoms) i a × (rewriteAtom q rule a ≡ some b) × (changeAtom q i b ≡ r)
 
-  pub gathered-found : {x : X} → x ∈ gathered → (i k : ℕ) × (f i k ≡ some x)
-  gathered-found s =
-      let r = flatMap-found (λ i. flatMap (λ k. toList (f i k)) (numbers zero n)) (numbers zero m) s in
-      let t = flatMap-found (λ k. toList (f (r .0) k)) (numbers zero n) (r .2) in
-      (r .0, t .0, mem-toList (f (r .0) (t .0)) .0 (t .2))
+-- the atoms at i and at the later j are made equal, everywhere in q
+abbrev pub MergeGives : Query → ℕ → ℕ → Query → Type 0
+MergeGives q i j r = (i < j) × (a b : Atom Term) × (σ : ℕ → Term) × At (q .atoms) i a × At (q .atoms) j b × (unify a b ≡ some σ) × (substitute σ q ≡ r)
 
-  pub gathered-of : {x : X} (i k : ℕ) → (i < m) × (k < n) → f i k ≡ some x → x ∈ gathered
-  gathered-of i k h e =
-      flatMap-of (λ i. flatMap (λ k. toList (f i k)) (numbers zero n)) (mem-numbers zero m i (omega arith) (omega arith))
-      (flatMap-of (λ k. toList (f i k)) (mem-numbers zero n k (omega arith) (omega arith)) (mem-toList (f i k) .1 e))
-
--- ---- steps
-
--- a step names indices that there are
-pub ruleStep-indices : (rules : List Rule) (q : Query) (i k : ℕ) {r : Query} → ruleStep rules q i k ≡ some r → (i < length (q .atoms)) × (k < length rules)
+pub ruleStep-iff : (rules : List Rule) (q : Query) (i k : ℕ) (r : Query) → (ruleStep rules q i k ≡ some r) ↔ RuleGives rules q i k r
 unfolding ruleStep
-ruleStep-indices rules q i k e =
-    let s = andThen-some (getElem? rules k) e in
-    let t = andThen-some (getElem? (q .atoms) i) (s .2) in
-    (at-lt (q .atoms) i (t .1), at-lt rules k (s .1))
+ruleStep-iff rules q i k r = (
+  λ e. let x = andThen-some (getElem? rules k) e in
+      let y = andThen-some (getElem? (q .atoms) i) (x .2) in
+      let z = andThen-some (rewriteAtom q (x .0) (y .0)) (y .2) in
+      (x .0, y .0, z .0, x .1, y .1, z .1, some-inj (z .2)),
+  λ w. andThen-at _ (w .3) ∙ (andThen-at _ (w .4) ∙ (andThen-at _ (w .5) ∙ ap some (w .6))),
+)
 
-pub mergeStep-indices : (q : Query) (i j : ℕ) {r : Query} → mergeStep q i j ≡ some r → (i < length (q .atoms)) × (j < length (q .atoms))
+pub mergeStep-iff : (q : Query) (i j : ℕ) (r : Query) → (mergeStep q i j ≡ some r) ↔ MergeGives q i j r
 unfolding mergeStep
-mergeStep-indices q i j e =
-    let s = andThen-some (getElem? (q .atoms) i) (pick-some (ltb i j) e .1) in
-    let t = andThen-some (getElem? (q .atoms) j) (s .2) in
-    (at-lt (q .atoms) i (s .1), at-lt (q .atoms) j (t .1))
+mergeStep-iff q i j r = (
+  λ e. let w = pick-some (ltb i j) e in
+      let x = andThen-some (getElem? (q .atoms) i) (w .1) in
+      let y = andThen-some (getElem? (q .atoms) j) (x .2) in
+      let z = andThen-some (unify (x .0) (y .0)) (y .2) in
+      (ltb→lt i j (w .0), x .0, y .0, z .0, x .1, y .1, z .1, some-inj (z .2)),
+  λ w. pick-true (ltb i j) _ none (lt→ltb i j (w .0)) ∙ (andThen-at _ (w .4) ∙ (andThen-at _ (w .5) ∙ (andThen-at _ (w .6) ∙ ap some (w .7)))),
+)
+
+-- two atoms at two indices that a map makes equal can be merged, whichever comes first
+pub mergeStep-either : {X : Type 0} (self : ℕ → X) → ((c d : ℕ) → self c ≡ self d → c ≡ d) → (q : Query) (i j : ℕ) (a b : Atom Term) (h : ℕ → X)
+    → i ≢ j → At (q .atoms) i a → At (q .atoms) j b → mapAtom (send self h) a ≡ mapAtom (send self h) b
+    → (σ : ℕ → Term) × Unifies a b σ × (k l : ℕ) × (mergeStep q k l ≡ some (substitute σ q))
+mergeStep-either self apart q i j a b h d e f same = elim (decLt i j) [
+  | yes l ↦ (let s = unify-complete self apart a b h same in (s .0, inl (s .1), i, j, mergeStep-iff q i j (substitute (s .0) q) .1 (l, a, b, s .0, e, f, s .1, refl)))
+  | no n ↦ (let s = unify-complete self apart b a h (sym same) in (s .0, inr (s .1), j, i, mergeStep-iff q j i (substitute (s .0) q) .1 (omega arith, b, a, s .0, f, e, s .1, refl)))
+]
+
+-- ---- all steps
 
 -- the list holds a result exactly if some indices give it
 pub steps-iff : (rules : List Rule) (q r : Query) → (r ∈ steps rules q) ↔ StepTo rules q r
@@ -56,8 +66,10 @@ steps-iff rules q r = (
     | inr h ↦ inr (gathered-found (mergeStep q) a a h)
   ],
   λ s. elim s [
-    | inl h ↦ Memᴰ·append-left (gathered (mergeStep q) a a) (gathered-of (ruleStep rules q) a (length rules) (h .0) (h .1) (ruleStep-indices rules q (h .0) (h .1) (h .2)) (h .2))
-    | inr h ↦ Memᴰ·append-right (gathered (ruleStep rules q) a (length rules)) (gathered-of (mergeStep q) a a (h .0) (h .1) (mergeStep-indices q (h .0) (h .1) (h .2)) (h .2))
+    | inl h ↦ (let w = ruleStep-iff rules q (h .0) (h .1) r .0 (h .2) in
+        Memᴰ·append-left (gathered (mergeStep q) a a) (gathered-of (ruleStep rules q) a (length rules) (h .0) (h .1) (at-lt (q .atoms) (h .0) (w .4)) (at-lt rules (h .1) (w .3)) (h .2)))
+    | inr h ↦ (let w = mergeStep-iff q (h .0) (h .1) r .0 (h .2) in
+        Memᴰ·append-right (gathered (ruleStep rules q) a (length rules)) (gathered-of (mergeStep q) a a (h .0) (h .1) (at-lt (q .atoms) (h .0) (w .4)) (at-lt (q .atoms) (h .1) (w .5)) (h .2)))
   ],
 )
   where

@@ -1,34 +1,19 @@
 -- 01: "two atoms of one predicate whose terms can be made equal", and "the most general such replacement": `unify` makes two
 -- atoms equal, every map that makes them equal factors through it, and it finds a replacement wherever there is one.
 use mathlib.Core.Path.{_≡_, refl, sym, ap, _∙_, subst}
-use mathlib.Core.Logic.{inl, inr, _↔_}
+use mathlib.Core.Logic.{_⊎_, inl, inr, _↔_}
 use Prim.Native.Nat.{ℕ}
+use native.Mathlib.Decide.{ℕ-discrete}
 use native.Mathlib.Omega.{arith}
-use mathlib.Core.Bool.{Bool, true, false}
-use mathlib.Core.Option.{Option, none, some}
-use lib.Dec.{T, eqb, leb}
-use Rattle.theory.specs.Lists.{pick, andThen}
+use mathlib.Core.Bool.{true, false}
+use mathlib.Core.Option.{none, some}
+use lib.Dec.{eqb, leb}
+use Rattle.theory.specs.Lists.{pick}
 use Rattle.theory.specs.Syntax.{Term, var, const, Atom, concept, role, mapAtom, send, subst-term}
 use Rattle.theory.specs.Rewriting.{replace, after, join, bind, unify}
 use Rattle.theory.specs.Union.{Unifiable}
-use Rattle.theory.specs.Laws.Lists.{either, T-eqb, pick-true, pick-false, pick-some, some-inj, none≢some, guard-some, guard-true, andThen-some, andThen-at}
-
--- ---- on lists
-
--- a choice whose second branch is none gives a value where the test passes, and a computation where its rest does
-found-pick : {X : Type 0} (b : Bool) {o : Option X} → T b → ((y : X) × (o ≡ some y)) → (y : X) × (pick b o none ≡ some y)
-found-pick true t f = f
-found-pick false t f = absurd t
-
-found-andThen : {X Y : Type 0} {o : Option X} (f : X → Option Y) → ((x : X) × (o ≡ some x)) → ((x : X) → o ≡ some x → (y : Y) × (f x ≡ some y)) → (y : Y) × (andThen o f ≡ some y)
-found-andThen f m rest = let n = rest (m .0) (m .1) in (n .0, andThen-at f (m .1) ∙ n .1)
-
--- ---- maps of terms
-
--- a map after a substitution is one map
-pub send-subst : {X : Type 0} (self h : ℕ → X) (σ : ℕ → Term) (t : Term) → send self h (subst-term σ t) ≡ send self (λ v. send self h (σ v)) t
-send-subst self h σ (var v) = refl
-send-subst self h σ (const c) = refl
+use Rattle.theory.specs.Laws.Options.{found-pick, found-andThen, T-eqb, pick-some, some-inj, none≢some, guard-some, guard-true, andThen-some}
+use Rattle.theory.specs.Laws.Syntax.{update, update-same, update-other, send-subst, subst-var}
 
 -- What holds of what `join` gives: of σ where the terms are one, and of σ with a variable replaced by the other term.
 join-by : (P : (ℕ → Term) → Type 0) (σ : ℕ → Term) (s t : Term) {τ : ℕ → Term} → join σ s t ≡ some τ → (s ≡ t → P σ) → ((v : ℕ) → s ≡ var v → P (after σ v t)) → ((v : ℕ) → t ≡ var v → P (after σ v s)) → P τ
@@ -44,9 +29,9 @@ join-by P σ (var u) (var v) e same left right =
 -- a variable and what it is replaced by become one term
 replace-joins : (v : ℕ) (t : Term) → subst-term (replace v t) (var v) ≡ subst-term (replace v t) t
 unfolding replace
-replace-joins v (const c) = pick-true (eqb v v) (const c) (var v) (T-eqb v v .1 refl)
+replace-joins v (const c) = update-same var v (const c)
 replace-joins v (var u) =
-    pick-true (eqb v v) (var u) (var v) (T-eqb v v .1 refl)
+    update-same var v (var u)
     ∙ (elim (eqb u v) as (λ b. var u ≡ pick b (var u) (var u)) [ true ↦ refl | false ↦ refl ])
 
 -- τ is σ and then a further substitution, which makes the images of s and t one
@@ -55,12 +40,7 @@ Further σ s t τ = (ρ : ℕ → Term) × ((w : Term) → subst-term τ w ≡ s
 
 after-further : (σ : ℕ → Term) (v : ℕ) (r w : Term) → subst-term (after σ v r) w ≡ subst-term (replace v r) (subst-term σ w)
 unfolding after
-after-further σ v r (var u) = refl
-after-further σ v r (const c) = refl
-
-subst-var : (t : Term) → subst-term var t ≡ t
-subst-var (var v) = refl
-subst-var (const c) = refl
+after-further σ v r w = sym (send-subst const (replace v r) σ w)
 
 bind-equal : (σ : ℕ → Term) (s t : Term) {τ : ℕ → Term} → bind σ s t ≡ some τ → Further σ (subst-term σ s) (subst-term σ t) τ
 unfolding bind
@@ -97,19 +77,20 @@ unify-equal (role P s s′) (role Q t t′) {σ} e =
 
 module _ {X : Type 0} (self : ℕ → X) where
   -- h is σ and then h
-  abbrev Through : (ℕ → X) → (ℕ → Term) → Type 0
+  abbrev pub Through : (ℕ → X) → (ℕ → Term) → Type 0
   Through h σ = (v : ℕ) → h v ≡ send self h (σ v)
 
-  through-term : (h : ℕ → X) (σ : ℕ → Term) → Through h σ → (t : Term) → send self h (subst-term σ t) ≡ send self h t
+  -- so a term goes the same way with σ before and without
+  pub through-term : (h : ℕ → X) (σ : ℕ → Term) → Through h σ → (t : Term) → send self h (subst-term σ t) ≡ send self h t
   through-term h σ f (var v) = sym (f v)
   through-term h σ f (const c) = refl
 
   replace-through : (h : ℕ → X) (v : ℕ) (r : Term) → h v ≡ send self h r → Through h (replace v r)
   unfolding replace
   replace-through h v r e u =
-      elim (either (eqb u v)) [
-        | inl t ↦ ap h (T-eqb u v .0 t) ∙ e ∙ ap (send self h) (sym (pick-true (eqb u v) r (var u) t))
-        | inr f ↦ ap (send self h) (sym (pick-false (eqb u v) r (var u) f))
+      elim (ℕ-discrete u v) [
+        | yes d ↦ ap h d ∙ e ∙ ap (send self h) (sym (update-same var v r) ∙ ap (update var v r) (sym d))
+        | no d ↦ ap (send self h) (sym (update-other var v r u d))
       ]
 
   after-through : (h : ℕ → X) (σ : ℕ → Term) (v : ℕ) (r : Term) → h v ≡ send self h r → Through h σ → Through h (after σ v r)
@@ -161,6 +142,21 @@ module _ {X : Type 0} (self : ℕ → X) where
 
     pub unify-fails : (a b : Atom Term) → unify a b ≡ none → (h : ℕ → X) → ¬ (mapAtom (send self h) a ≡ mapAtom (send self h) b)
     unify-fails a b e h d = none≢some (sym e ∙ unify-complete a b h d .1)
+
+-- ---- two atoms in one order or the other
+
+abbrev pub Unifies : Atom Term → Atom Term → (ℕ → Term) → Type 0
+Unifies a b σ = (unify a b ≡ some σ) ⊎ (unify b a ≡ some σ)
+
+pub unifies-equal : (a b : Atom Term) {σ : ℕ → Term} → Unifies a b σ → mapAtom (subst-term σ) a ≡ mapAtom (subst-term σ) b
+unifies-equal a b (inl e) = unify-equal a b e
+unifies-equal a b (inr e) = sym (unify-equal b a e)
+
+pub unifies-factors : {X : Type 0} (self : ℕ → X) (a b : Atom Term) {σ : ℕ → Term} → Unifies a b σ → (h : ℕ → X) → mapAtom (send self h) a ≡ mapAtom (send self h) b → Through self h σ
+unifies-factors self a b (inl e) h d = unify-factors self a b e h d
+unifies-factors self a b (inr e) h d = unify-factors self b a e h (sym d)
+
+-- ---- what can be made equal
 
 const-apart : (c d : ℕ) → const c ≡ const d → c ≡ d
 const-apart c d e = cc

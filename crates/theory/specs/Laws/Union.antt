@@ -10,11 +10,12 @@ use Rattle.theory.specs.Refusals.{First, NoneHolds}
 use Rattle.theory.specs.Syntax.{Rule, Query, UCQ}
 use Rattle.theory.specs.Renaming.{Alike, alike}
 use Rattle.theory.specs.Union.{Accepted, conditions, refuses7, refuses8, refuses9, refuses10, refuses11, check}
-use Rattle.theory.specs.Laws.Lists.{either, at-lt}
-use Rattle.theory.specs.Laws.RenamingDecided.{alike-iff}
+use Rattle.theory.specs.Laws.Options.{either}
+use Rattle.theory.specs.Laws.Lists.{at-lt}
 use Rattle.theory.specs.Laws.Refusals.{Decides, first-refusal-iff, no-refusal-iff}
-use Rattle.theory.specs.Laws.UnionTests.{meets7-or-start, meets7-not-start, someAlike-iff, refuses7-iff, refuses8-iff, refuses9-iff, refuses10-iff, refuses11-iff}
+use Rattle.theory.specs.Laws.RenamingDecided.{alike-iff}
 use Rattle.theory.specs.Laws.WrittenStep.{yields-unique, refused-or-yields, refused-not-yields}
+use Rattle.theory.specs.Laws.UnionTests.{meets7-or-start, meets7-not-start, someAlike-iff, refuses7-iff, refuses8-iff, refuses9-iff, refuses10-iff, refuses11-iff}
 
 -- the tests that the check makes, in order
 abbrev tests : List Rule → Query → UCQ → List (ℕ × Bool)

@@ -13,20 +13,12 @@ use Rattle.theory.specs.Syntax.{Term, Atom, Rule, Query, Step, Member, U
 use Rattle.theory.specs.Rewriting.{steps}
 use Rattle.theory.specs.Renaming.{Alike, alike}
 use Rattle.theory.specs.Union.{yield, noStep, Meets7, Meets8, Meets9, Meets10, Meets11, sameQuery, zeroStep, anyFrom, yieldsUnlike, refuses7, refuses8, refuses9, refuses10, refuses11}
-use Rattle.theory.specs.Laws.Lists.{T-and, T-or, T-no, T-eqb, either, some-inj, none≢some, any-iff, pairwise-iff, at-mem, mem-at, at-lt, at-unique}
+use Rattle.theory.specs.Laws.Options.{T-and, T-or, T-no, T-eqb, either, some-inj, none≢some}
+use Rattle.theory.specs.Laws.Lists.{any-decides, pairwise-iff, at-mem, mem-at, at-lt, at-unique}
 use Rattle.theory.specs.Laws.Syntax.{sameTerm-iff, sameAtom-iff}
-use Rattle.theory.specs.Laws.RenamingDecided.{alike-iff}
 use Rattle.theory.specs.Laws.Steps.{steps-iff}
+use Rattle.theory.specs.Laws.RenamingDecided.{alike-iff}
 use Rattle.theory.specs.Laws.WrittenStep.{yield-iff, Refused, refused-iff}
-
--- ---- on lists
-
--- a test that decides P finds an element of which P holds
-pub any-decides : {X : Type 0} (test : X → Bool) (P : X → Type 0) (xs : List X) → ((x : X) → T (test x) ↔ P x) → T (any test xs) ↔ ((x : X) × (x ∈ xs) × P x)
-any-decides test P xs decides = (
-  λ t. let w = any-iff test xs .0 t in (w .0, w .1, decides (w .0) .0 (w .2)),
-  λ w. any-iff test xs .1 (w .0, w .1, decides (w .0) .1 (w .2)),
-)
 
 -- ---- the first member
 

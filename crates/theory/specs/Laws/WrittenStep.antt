@@ -1,69 +1,31 @@
 -- What the step written beside a member yields, and that it yields something exactly where it is not refused.
-use mathlib.Core.Path.{_≡_, refl, sym, ap, _∙_, subst}
+use mathlib.Core.Path.{_≡_, refl, sym, _∙_, subst}
 use mathlib.Core.Logic.{_⊎_, inl, inr, _↔_, _≢_}
-use Prim.Native.Nat.{ℕ, zero, suc, _≤_, _<_, zero-le, suc-le-suc}
+use Prim.Native.Nat.{ℕ, _≤_, _<_}
+use native.Mathlib.Decide.{ℕ-discrete, decLt}
 use native.Mathlib.Omega.{arith}
 use mathlib.Core.Bool.{not}
 use mathlib.Core.Option.{Option, none, some}
-use mathlib.Core.List.{List, [], _∷_}
-use lib.Dec.{T, eqb, ltb, ltb→lt, lt→ltb, nltb→le}
+use mathlib.Core.List.{List}
+use lib.Dec.{T, eqb, ltb, ltb→lt, lt→ltb}
 use lib.ListN.{length, getElem?}
 use Rattle.theory.specs.Lists.{At, pick, isSome}
-use Rattle.theory.specs.Syntax.{Term, Atom, Rule, Query, Step, Member, UCQ}
+use Rattle.theory.specs.Syntax.{Rule, Query, Step, Member, UCQ}
 use Rattle.theory.specs.Rewriting.{rewriteAtom, unify, changeAtom, substitute, ruleStep, mergeStep}
 use Rattle.theory.specs.Union.{yield, Yields, MissingIndex, DoesNotApply}
-use Rattle.theory.specs.Laws.Lists.{T-no, T-eqb, either, pick-true, pick-false, some-inj, none≢some, isSome-some, some-or-none, pick-some, andThen-some, andThen-at, at-lt, lt-at, at-unique}
+use Rattle.theory.specs.Laws.Options.{T-no, T-eqb, either, pick-true, pick-false, some-inj, none≢some, isSome-some, some-or-none, pick-some, andThen-some, andThen-at}
+use Rattle.theory.specs.Laws.Lists.{at-lt, at-or-past, at-unique}
 use Rattle.theory.specs.Laws.Unifier.{unifiable-iff}
-
--- ---- on lists
-
--- an index within the list, or past its end
-pub index : {X : Type 0} (xs : List X) (i : ℕ) → ((x : X) × At xs i x) ⊎ (length xs ≤ i)
-index [] i = inr zero-le
-index (x ∷ xs) zero = inl (x, refl)
-index (x ∷ xs) (suc i) = elim (index xs i) [ inl w ↦ inl w | inr h ↦ inr (suc-le-suc h) ]
-
--- ---- the two kinds of steps
-
--- what a step of each kind does, in one tuple
-abbrev pub RuleGives : List Rule → Query → ℕ → ℕ → Query → Type 0
-RuleGives rules q i k r = (rule : Rule) × (a b : Atom Term) × At rules k rule × At (q .atoms) i a × (rewriteAtom q rule a ≡ some b) × (changeAtom q i b ≡ r)
-
-abbrev pub MergeGives : Query → ℕ → ℕ → Query → Type 0
-MergeGives q i j r = (i < j) × (a b : Atom Term) × (σ : ℕ → Term) × At (q .atoms) i a × At (q .atoms) j b × (unify a b ≡ some σ) × (substitute σ q ≡ r)
-
-pub ruleStep-iff : (rules : List Rule) (q : Query) (i k : ℕ) (r : Query) → (ruleStep rules q i k ≡ some r) ↔ RuleGives rules q i k r
-unfolding ruleStep
-ruleStep-iff rules q i k r = (
-  λ e. let x = andThen-some (getElem? rules k) e in
-      let y = andThen-some (getElem? (q .atoms) i) (x .2) in
-      let z = andThen-some (rewriteAtom q (x .0) (y .0)) (y .2) in
-      (x .0, y .0, z .0, x .1, y .1, z .1, some-inj (z .2)),
-  λ w. andThen-at _ (w .3) ∙ (andThen-at _ (w .4) ∙ (andThen-at _ (w .5) ∙ ap some (w .6))),
-)
-
-pub mergeStep-iff : (q : Query) (i j : ℕ) (r : Query) → (mergeStep q i j ≡ some r) ↔ MergeGives q i j r
-unfolding mergeStep
-mergeStep-iff q i j r = (
-  λ e. let w = pick-some (ltb i j) e in
-      let x = andThen-some (getElem? (q .atoms) i) (w .1) in
-      let y = andThen-some (getElem? (q .atoms) j) (x .2) in
-      let z = andThen-some (unify (x .0) (y .0)) (y .2) in
-      (ltb→lt i j (w .0), x .0, y .0, z .0, x .1, y .1, z .1, some-inj (z .2)),
-  λ w. pick-true (ltb i j) _ none (lt→ltb i j (w .0)) ∙ (andThen-at _ (w .4) ∙ (andThen-at _ (w .5) ∙ (andThen-at _ (w .6) ∙ ap some (w .7)))),
-)
+use Rattle.theory.specs.Laws.Steps.{RuleGives, MergeGives, ruleStep-iff, mergeStep-iff}
 
 -- ---- the step written beside a member
 
 -- the kinds of steps that there are
 which-kind : (kind : ℕ) → (kind ≡ 1) ⊎ ((kind ≡ 2) ⊎ ((kind ≢ 1) × (kind ≢ 2)))
 which-kind kind =
-    elim (either (eqb kind 1)) [
-      | inl t ↦ inl (T-eqb kind 1 .0 t)
-      | inr f ↦ elim (either (eqb kind 2)) [
-        | inl t ↦ inr (inl (T-eqb kind 2 .0 t))
-        | inr g ↦ inr (inr (λ e. f (T-eqb kind 1 .1 e), λ e. g (T-eqb kind 2 .1 e)))
-      ]
+    elim (ℕ-discrete kind 1) [
+      | yes e ↦ inl e
+      | no f ↦ elim (ℕ-discrete kind 2) [ yes e ↦ inr (inl e) | no g ↦ inr (inr (f, g)) ]
     ]
 
 -- of two computations the one whose kind it is
@@ -107,9 +69,9 @@ Refused rules union k s =
 -- a step of kind 1 is unfit or gives a result, and not both
 rule-fits : (rules : List Rule) (p : Query) (s : Step) → s .kind ≡ 1 → Unfit rules p s ⊎ ((r : Query) × (ruleStep rules p (s .atom) (s .other) ≡ some r))
 rule-fits rules p s kind =
-    elim (index (p .atoms) (s .atom)) [
+    elim (at-or-past (p .atoms) (s .atom)) [
       | inr l ↦ inl (inl (inl l))
-      | inl a ↦ elim (index rules (s .other)) [
+      | inl a ↦ elim (at-or-past rules (s .other)) [
         | inr l ↦ inl (inl (inr (inl (kind, l))))
         | inl rule ↦ elim (some-or-none (rewriteAtom p (rule .0) (a .0))) [
           | inr e ↦ inl (inr (inl (kind, rule .0, a .0, rule .1, a .1, e)))
@@ -134,15 +96,15 @@ rule-unfit rules p s {r} kind e = unfit (ruleStep-iff rules p (s .atom) (s .othe
 -- a step of kind 2 is unfit or gives a result, and not both
 merge-fits : (rules : List Rule) (p : Query) (s : Step) → s .kind ≡ 2 → Unfit rules p s ⊎ ((r : Query) × (mergeStep p (s .atom) (s .other) ≡ some r))
 merge-fits rules p s kind =
-    elim (index (p .atoms) (s .atom)) [
+    elim (at-or-past (p .atoms) (s .atom)) [
       | inr l ↦ inl (inl (inl l))
-      | inl a ↦ elim (index (p .atoms) (s .other)) [
+      | inl a ↦ elim (at-or-past (p .atoms) (s .other)) [
         | inr l ↦ inl (inl (inr (inr (kind, l))))
-        | inl b ↦ elim (either (ltb (s .atom) (s .other))) [
-          | inr f ↦ inl (inr (inr (kind, inl (nltb→le (s .atom) (s .other) (T-no (ltb (s .atom) (s .other)) .1 f)))))
-          | inl t ↦ elim (some-or-none (unify (a .0) (b .0))) [
+        | inl b ↦ elim (decLt (s .atom) (s .other)) [
+          | no f ↦ inl (inr (inr (kind, inl (omega arith))))
+          | yes l ↦ elim (some-or-none (unify (a .0) (b .0))) [
             | inr e ↦ inl (inr (inr (kind, inr (a .0, b .0, a .1, b .1, λ u. none≢some (sym e ∙ unifiable-iff (a .0) (b .0) .0 u .1)))))
-            | inl σ ↦ inr (substitute (σ .0) p, mergeStep-iff p (s .atom) (s .other) _ .1 (ltb→lt (s .atom) (s .other) t, a .0, b .0, σ .0, a .1, b .1, σ .1, refl))
+            | inl σ ↦ inr (substitute (σ .0) p, mergeStep-iff p (s .atom) (s .other) _ .1 (l, a .0, b .0, σ .0, a .1, b .1, σ .1, refl))
           ]
         ]
       ]
@@ -165,9 +127,9 @@ merge-unfit rules p s {r} kind e = unfit (mergeStep-iff p (s .atom) (s .other) r
 -- the step written beside member k is refused or yields a result, and not both
 pub refused-or-yields : (rules : List Rule) (union : UCQ) (k : ℕ) (s : Step) → k < length union → Refused rules union k s ⊎ ((r : Query) × Yields rules union k s r)
 refused-or-yields rules union k s l =
-    elim (either (ltb (s .parent) k)) [
-      | inr f ↦ inl (inr (inl (nltb→le (s .parent) k (T-no (ltb (s .parent) k) .1 f))))
-      | inl t ↦ (let h = ltb→lt (s .parent) k t in from h (lt-at union (s .parent) (omega arith)))
+    elim (decLt (s .parent) k) [
+      | no f ↦ inl (inr (inl (omega arith)))
+      | yes h ↦ elim (at-or-past union (s .parent)) [ inl p ↦ from h p | inr g ↦ absurd (omega arith) ]
     ]
   where
     from : s .parent < k → (p : Member) × At union (s .parent) p → Refused rules union k s ⊎ ((r : Query) × Yields rules union k s r)

@@ -1,0 +1,3 @@
+-- Records as numbers, and what the words hold that the code works on.
+pub mod Records
+pub mod Words
