@@ -2,3 +2,4 @@
 pub mod Notation
 pub mod Examples
 pub mod Closure
+pub mod Sheets

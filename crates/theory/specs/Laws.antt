@@ -11,6 +11,7 @@ pub mod Refusals
 pub mod Syntax
 pub mod Unbound
 pub mod Fresh
+pub mod Pigeonhole
 pub mod Unifier
 pub mod Steps
 -- renaming

@@ -39,6 +39,7 @@ same-test a b c d to from = go (eqb a b) refl
     go true e = e ∙ sym (eq-eqb c d (to (eqb-true a b e)))
     go false e = e ∙ sym (ne-eqb c d (λ f. eqb-false a b e (from f)))
 
+-- two words of terms
 pub same-words : (a b : ℕ) → a < 33554432 → b < 33554432 → eqb a b ≡ sameTerm (termOf 24 a) (termOf 24 b)
 unfolding termOf sameTerm
 same-words a b ha hb = go (eqb (a / 16777216) 0) (eqb (b / 16777216) 0) refl refl
@@ -74,6 +75,7 @@ same-atoms k l n m t s u v hk hl ht hs hu hv = go (eqb k 0) (eqb l 0) refl refl
     go false true e f = simp (ne-eqb k l (λ z. eqb-false k 0 e (z ∙ eqb-true l 0 f)))
     go false false e f = simp (eq-eqb k l (omega (arith, eqb-false k 0 e, eqb-false l 0 f)), same-words t s ht hs, same-words u v hu hv, and-assoc)
 
+-- two words of atoms, by their fields
 same-atom : (a b : ℕ) → sameAtom (atomOf 24 a) (atomOf 24 b) ≡ (eqb (field 63 1 a) (field 63 1 b) && eqb (field 50 12 a) (field 50 12 b) && sameTerms (field 63 1 a) (field 25 25 a) (field 25 25 b) (field 0 25 a) (field 0 25 b))
 unfolding atomOf
 same-atom a b =
@@ -93,16 +95,11 @@ module _ (a b k l : ℕ) (ka : k ≡ field 63 1 a) (lb : l ≡ field 63 1 b) whe
 
 -- ---- a term in an atom
 
+-- a test on the places of an atom
 some-place : (p : Term → Bool) (a : ℕ) → any p (args (atomOf 24 a)) ≡ (p (termOf 24 (field 25 25 a)) || pick (eqb (field 63 1 a) 0) false (p (termOf 24 (field 0 25 a))))
 unfolding any atomOf
 some-place p a = go (eqb (field 63 1 a) 0)
   where
-    t : Term
-    t = termOf 24 (field 25 25 a)
-
-    u : Term
-    u = termOf 24 (field 0 25 a)
-
     go : (x : Bool) → any p (args (pick x (concept (field 50 12 a) (termOf 24 (field 25 25 a))) (role (field 50 12 a) (termOf 24 (field 25 25 a)) (termOf 24 (field 0 25 a))))) ≡ (p (termOf 24 (field 25 25 a)) || pick x false (p (termOf 24 (field 0 25 a))))
     go true = refl
     go false = simp or-false

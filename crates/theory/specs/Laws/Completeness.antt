@@ -14,7 +14,7 @@ use Rattle.theory.specs.Syntax.{Term, var, Atom, Rule, Query, Member, UC
 use Rattle.theory.specs.Chase.{Round, Answer, FirstReader}
 use Rattle.theory.specs.Rewriting.{substitute, changeAtom, mergeStep, StepTo}
 use Rattle.theory.specs.Renaming.{Alike}
-use Rattle.theory.specs.Union.{Accepted, SoundUnion, noStep}
+use Rattle.theory.specs.Union.{Accepted, noStep}
 use Rattle.theory.specs.Laws.Lists.{mem-at, at-mem, at-equal, at-unique, map-after, map-agree, set-at, dropAt, mem-dropAt, dropAt-mem, dropAt-set}
 use Rattle.theory.specs.Laws.Syntax.{mapAtom-id, mapAtom-agree, keepOnce-mem, terms-atoms, terms-answers, map-args, substitute-mem, mapAtom-after}
 use Rattle.theory.specs.Laws.Unbound.{bound-elsewhere}
@@ -69,7 +69,7 @@ module _ (rules : List Rule) (facts : List Fact) where
 
   -- ---- one trade
 
-  module _ (union : UCQ) (q₀ : Query) (accepted : Accepted rules q₀ union) (sound : SoundUnion q₀ union) (tuple : List ℕ) where
+  module _ (union : UCQ) (q₀ : Query) (accepted : Accepted rules q₀ union) (distinct : (m : Member) → m ∈ union → Unrepeated (m .query .atoms)) (tuple : List ℕ) where
     -- some member is matched at this cost
     abbrev MemberMatched : ℕ → Type 0
     MemberMatched total = (m : Member) × (m ∈ union) × Matched (m .query) tuple total
@@ -84,7 +84,7 @@ module _ (rules : List Rule) (facts : List Fact) where
         → Budget (λ x n. HoldsIn h (mapAtom s x) n) xs total → MemberMatched total
     through-step m r total h xs s i step sends from b =
         let (n, j, a) = accepted .closed m r i step in
-        (n, j, matched-alike r (n .query) a tuple total h xs s (sound n j .distinct) sends from b)
+        (n, j, matched-alike r (n .query) a tuple total h xs s (distinct n j) sends from b)
 
     module _ (m : Member) (i : m ∈ union) (h : ℕ → Thing) (sends : map (value h) (m .query .answers) ≡ map object tuple) where
       -- the rule that concluded the atom's image rewrites the atom: what it makes holds a round earlier

@@ -1,0 +1,128 @@
+-- A member's row of words, and the rows of a table.
+use mathlib.Core.Path.{_≡_, refl, sym, ap, _∙_, subst}
+use Prim.Native.Nat.{ℕ, zero, suc, _+_, _*_, _≤_, _<_}
+use native.Mathlib.Numerals.{add-one}
+use native.Mathlib.Omega.{arith}
+use mathlib.Core.List.{List, [], _∷_, _++_, map, append-assoc}
+use lib.ListN.{length, getD, take, drop, set, take-append-drop, length-drop, drop-of-length-le}
+use lib.Seq.{paste, paste-zero, paste-suc, length-paste, drop-cons, take-append-le, drop-append-le, take-at, drop-at, take-all, length-take-le}
+use borrow.Author.Count.{below-more}
+use borrow.Author.Needs.{needs}
+use Rattle.theory.specs.Lists.{numbers}
+use Rattle.theory.specs.Syntax.{Member}
+use Rattle.sheets.specs.Bits.{numberAt}
+use Rattle.sheets.specs.Format.{queryAt, memberStart, memberAt}
+use Rattle.words.specs.Records.{termOf, atomOf, stepOf}
+use Rattle.read_union.specs.Members.{RowOf}
+use Rattle.sheets.specs.Partners.{queryAsRead, memberAsRead}
+use Rattle.words.specs.Words.{queryOf, memberOf, unionIn}
+use Rattle.words.specs.declared.QueryWords.{QueryWords}
+
+-- ---- the words of a row
+
+-- a list is its elements, one by one
+drop-listed : (l : List ℕ) (k n : ℕ) → length l ≡ k + n → drop k l ≡ map (λ i. getD l i 0) (numbers k n)
+unfolding numbers
+drop-listed l k zero e = drop-of-length-le l {i = k} (omega arith)
+drop-listed l k (suc n) e = drop-cons l k 0 (omega arith) ∙ ap (λ r. getD l k 0 ∷ r) (drop-listed l (suc k) n (omega arith))
+
+-- the first words of a list that begins with all of another
+first-words : (n : ℕ) (l listed rest : List ℕ) → l ≡ listed → n ≤ length l → take n (listed ++ rest) ≡ take n l
+first-words n l listed rest e h = take-append-le n listed rest (rw e at h) ∙ ap (take n) (sym e)
+
+module _ (step : ℕ) (q : QueryWords) (four : length (q .answers) ≡ 4) (eight : length (q .atoms) ≡ 8) (few : q .terms ≤ 4) (some : q .size ≤ 8) (rest : List ℕ) where
+  pub row-words : memberOf
+      (step ∷ q .terms
+      ∷ getD (q .answers) 0 0 ∷ getD (q .answers) 1 0 ∷ getD (q .answers) 2 0 ∷ getD (q .answers) 3 0 ∷ q .size ∷ 0
+      ∷ getD (q .atoms) 0 0 ∷ getD (q .atoms) 1 0 ∷ getD (q .atoms) 2 0 ∷ getD (q .atoms) 3 0
+      ∷ getD (q .atoms) 4 0 ∷ getD (q .atoms) 5 0 ∷ getD (q .atoms) 6 0 ∷ getD (q .atoms) 7 0 ∷ rest)
+      ≡ record { step = stepOf step; query = queryOf q }
+  unfolding memberOf queryOf numbers
+  row-words =
+      rw (first-words (q .terms) (q .answers) (map (λ i. getD (q .answers) i 0) (numbers 0 4)) _ (drop-listed (q .answers) 0 4 four) (omega arith), first-words (q .size) (q .atoms) (map (λ i. getD (q .atoms) i 0) (numbers 0 8)) rest (drop-listed (q .atoms) 0 8 eight) (omega arith))
+
+-- ---- a row put into a table
+
+pub none-put : (t : List ℕ) (at : ℕ) (row : List ℕ) → t ≡ paste t at row 0
+none-put t at row = paste-zero t at row
+
+module _ (t : List ℕ) (at : ℕ) (row table : List ℕ) (k : ℕ) (full : length row ≡ 16) (room : at + 16 ≤ length t) (e : table ≡ paste t at row k) where
+  pub put-length : k ≤ 16 → length table ≡ length t
+  put-length h = ap length e ∙ length-paste t at row k (omega arith) (omega arith)
+
+  pub put-room : k < 16 → at + k < length table
+  put-room h = let d : length table ≡ length t = put-length (omega arith) in omega arith
+
+  pub one-put : k < 16 → set table (at + k) (getD row k 0) ≡ paste t at row (k + 1)
+  one-put h = ap (λ l. set l (at + k) (getD row k 0)) e ∙ paste-suc t at row k 0 (omega arith) (omega arith) ∙ ap (paste t at row) (sym (add-one k))
+
+  pub all-put : k ≤ 16 → 16 ≤ k → table ≡ paste t at row 16
+  all-put h g = let d : k ≡ 16 = omega arith in e ∙ ap (paste t at row) d
+
+-- ---- the rows of a table
+
+-- the first n rows are the union's first n members, as read
+abbrev pub RowsBelow : List ℕ → List ℕ → List ℕ → ℕ → Type 0
+RowsBelow p s table n = (i : ℕ) → i < n → RowOf (memberAsRead p (memberAt 16 s i)) (take 16 (drop (16 * i) table))
+
+pub no-rows : (p s table : List ℕ) → RowsBelow p s table 0
+no-rows p s table i h = absurd (omega arith)
+
+-- sixteen words, in a list and with more after it
+words-kept : (a : ℕ) (x y : List ℕ) → a + 16 ≤ length x → take 16 (drop a (x ++ y)) ≡ take 16 (drop a x)
+words-kept a x y h =
+    ap (take 16) (drop-append-le a x y (omega arith)) ∙ take-append-le 16 (drop a x) y (rw (length-drop a x) (omega arith))
+
+module _ (t row : List ℕ) (b : ℕ) (full : length row ≡ 16) (room : b + 16 ≤ length t) where
+  pasted : paste t b row 16 ≡ take b t ++ (row ++ drop (b + 16) t)
+  pasted = ap (λ r. take b t ++ r ++ drop (b + 16) t) (take-all 16 row (omega arith)) ∙ append-assoc (take b t) row (drop (b + 16) t)
+
+  before : length (take b t) ≡ b
+  before = length-take-le b t (omega arith)
+
+  row-there : take 16 (drop b (paste t b row 16)) ≡ row
+  row-there =
+      ap (λ l. take 16 (drop b l)) pasted ∙ ap (take 16) (drop-at (take b t) (row ++ drop (b + 16) t) b before) ∙ take-at row (drop (b + 16) t) 16 full
+
+  row-kept : (a : ℕ) → a + 16 ≤ b → take 16 (drop a (paste t b row 16)) ≡ take 16 (drop a t)
+  row-kept a h =
+      ap (λ l. take 16 (drop a l)) pasted ∙ words-kept a (take b t) (row ++ drop (b + 16) t) (omega (arith, before))
+      ∙ sym (ap (λ l. take 16 (drop a l)) (sym (take-append-drop b t)) ∙ words-kept a (take b t) (drop b t) (omega (arith, before)))
+
+-- one more member read
+module _ (p s : List ℕ) (at j : ℕ) (begins : at ≡ memberStart 16 s j) (step : ℕ) (q : QueryWords) (e : step ≡ numberAt s at 4) (d : queryOf q ≡ queryAsRead p (queryAt 16 s (at + 4))) where
+  as-read : memberAsRead p (memberAt 16 s j)
+      ≡ record { step = stepOf (numberAt s (memberStart 16 s j) 4); query = queryAsRead p (queryAt 16 s (memberStart 16 s j + 4)) }
+  unfolding memberAsRead memberAt
+  as-read = refl
+
+  member-read : _≡_ {A = Member} record { step = stepOf step; query = queryOf q } (memberAsRead p (memberAt 16 s j))
+  member-read = rw (as-read, ← begins, ← e, ← d)
+
+  pub rows-more : (first table later row : List ℕ) (count : ℕ) → RowOf (record { step = stepOf step; query = queryOf q }) row → later ≡ paste table (16 * j) row 16
+      → RowsBelow p s table j → length table ≡ length first → 8192 ≤ length first → j < count → count ≤ 512 → RowsBelow p s later (j + 1)
+  rows-more first table later row count r f below same large more few =
+      let room : 16 * j + 16 ≤ length table = omega arith in
+      below-more (λ i. RowOf (memberAsRead p (memberAt 16 s i)) (take 16 (drop (16 * i) later))) j
+      (λ i h. subst (λ l. RowOf (memberAsRead p (memberAt 16 s i)) l)
+      (sym (ap (λ t. take 16 (drop (16 * i) t)) f ∙ row-kept table row (16 * j) (r .0) room (16 * i) (omega arith))) (below i h))
+      (rw (f, row-there table row (16 * j) (r .0) room, ← member-read) r)
+
+-- the members in a table of rows
+mapped : (f : ℕ → Member) (g : Member → Member) (h : ℕ → Member) (start n : ℕ) → ((i : ℕ) → i < start + n → f i ≡ g (h i))
+    → map f (numbers start n) ≡ map g (map h (numbers start n))
+unfolding numbers
+mapped f g h start zero agree = refl
+mapped f g h start (suc n) agree =
+    let here : f start ≡ g (h start) = agree start (omega arith) in
+    let rest = mapped f g h (suc start) n (λ i l. agree i (omega arith)) in
+    cc
+
+pub rows-read : (p s table : List ℕ) (j count : ℕ) → RowsBelow p s table j → j ≤ count → count ≤ j
+    → unionIn table count ≡ map (memberAsRead p) (map (memberAt 16 s) (numbers 0 count))
+unfolding unionIn
+rows-read p s table j count below h k =
+    mapped (λ i. memberOf (drop (16 * i) table)) (memberAsRead p) (memberAt 16 s) 0 count
+    (λ i l. ap memberOf (sym (take-append-drop 16 (drop (16 * i) table))) ∙ below i (omega arith) .1 (drop 16 (drop (16 * i) table)))
+
+pub ruleset laws = (needs, row-words, none-put, put-length, put-room, one-put, all-put, no-rows, rows-more, rows-read)

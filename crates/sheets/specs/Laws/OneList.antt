@@ -1,0 +1,261 @@
+-- The one list of refusals against the lists of single sheets: a call that reads the sheets one after another, and stops at the first
+-- refusal, gives the list's first; and the number given is that of the first entry of 01's list whose condition holds.
+use mathlib.Core.Path.{_≡_, refl, sym, ap, _∙_, subst}
+use mathlib.Core.Logic.{_↔_, _≢_, Iff·trans}
+use Prim.Native.Nat.{ℕ}
+use native.Mathlib.Omega.{arith}
+use mathlib.Core.Bool.{Bool, true, false}
+use mathlib.Core.Option.{Option, none, some, orElse}
+use mathlib.Core.List.{List, [], _∷_, _++_}
+use lib.Dec.{T, ltb}
+use Rattle.theory.specs.Lists.{pick, all}
+use Rattle.theory.specs.Refusals.{firstRefusal, First, NoneHolds}
+use Rattle.theory.specs.Syntax.{Rule, Query, UCQ}
+use Rattle.theory.specs.Union.{SoundUnion, Accepted, conditions, refuses7, refuses8, refuses9, refuses10, refuses11, check}
+use Rattle.theory.specs.Laws.Options.{T-and, none≢some}
+use Rattle.theory.specs.Laws.Refusals.{Decides, first-refusal-iff, no-refusal-iff}
+use Rattle.theory.specs.Laws.Union.{check-accepts}
+use Rattle.theory.specs.Laws.UnionTests.{refuses7-iff, refuses8-iff, refuses9-iff, refuses10-iff, refuses11-iff}
+use Rattle.sheets.specs.Format.{termCount}
+use Rattle.sheets.specs.Refusals.{refuses6, Sheets, Which, Refusal, within, onlyRules, onlyQuestion, onlyFacts, questionAndUnion, checking, drawing, rulesAsRead, questionAsRead, unionAsRead, refusals, testsFor, refusalOf, numberOf, ruleRefusals, questionRefusals, factRefusals}
+use Rattle.sheets.specs.Laws.Tests.{ltb-tells}
+use Rattle.sheets.specs.Laws.RuleRefusals.{Meets1, refuses1-iff, Meets2, refuses2-iff}
+use Rattle.sheets.specs.Laws.QuestionRefusals.{Meets3, refuses3-iff, Meets4, refuses4-iff, Meets5, refuses5-twice, question-arity}
+use Rattle.sheets.specs.Laws.UnionRefusals.{Meets6, refuses6-iff, sound-union}
+use Rattle.sheets.specs.Laws.FactRefusals.{Meets12, refuses12-iff, Meets13, refuses13-iff}
+
+-- ---- on lists of tests
+
+-- the first of two lists, one after the other
+first-append : (es fs : List (ℕ × Bool)) → firstRefusal (es ++ fs) ≡ orElse (firstRefusal es) (firstRefusal fs)
+unfolding firstRefusal orElse
+first-append [] fs = refl
+first-append (e ∷ es) fs =
+    elim (e .1) as (λ b. pick b (some (e .0)) (firstRefusal (es ++ fs)) ≡ orElse (pick b (some (e .0)) (firstRefusal es)) (firstRefusal fs)) [
+      | true ↦ refl
+      | false ↦ first-append es fs
+    ]
+
+orElse-none : {X : Type 0} (o o′ : Option X) → (orElse o o′ ≡ none) ↔ ((o ≡ none) × (o′ ≡ none))
+unfolding orElse
+orElse-none none o′ = (λ e. (refl, e), λ e. e .1)
+orElse-none (some x) o′ = (λ e. absurd (none≢some (sym e)), λ e. e .0)
+
+none-along : {X : Type 0} {o o′ : Option X} → o ≡ o′ → (o ≡ none) ↔ (o′ ≡ none)
+none-along e = (λ f. sym e ∙ f, λ f. e ∙ f)
+
+one-none : (n : ℕ) (b : Bool) → (firstRefusal ((n, b) ∷ []) ≡ none) ↔ (¬ T b)
+unfolding firstRefusal
+one-none n true = (λ e. absurd (none≢some (sym e)), λ f. absurd (f tt))
+one-none n false = (λ e t. t, λ f. refl)
+
+-- no test has number 0, so that 0 says that none passes
+pub first-positive : (tests : List (ℕ × Bool)) → T (all (λ e. ltb 0 (e .0)) tests) → (numberOf (firstRefusal tests) ≡ 0) ↔ (firstRefusal tests ≡ none)
+unfolding all firstRefusal numberOf
+first-positive [] h = (λ e. refl, λ e. refl)
+first-positive (e ∷ es) h =
+    let parts = T-and (ltb 0 (e .0)) (all (λ e. ltb 0 (e .0)) es) .0 h in
+    elim (e .1) as (λ b. (numberOf (pick b (some (e .0)) (firstRefusal es)) ≡ 0) ↔ (pick b (some (e .0)) (firstRefusal es) ≡ none)) [
+      | true ↦ (λ z. absurd (let l = ltb-tells 0 (e .0) .pass .0 (parts .0) in omega arith), λ z. absurd (none≢some (sym z)))
+      | false ↦ first-positive es (parts .1)
+    ]
+
+decides-append : (es fs : List (ℕ × Bool)) (cs ds : List {1} (ℕ × Type 0)) → Decides es cs → Decides fs ds → Decides (es ++ fs) (cs ++ ds)
+decides-append [] fs [] ds h k = k
+decides-append [] fs (c ∷ cs) ds h k = absurd h
+decides-append (e ∷ es) fs [] ds h k = absurd h
+decides-append (e ∷ es) fs (c ∷ cs) ds h k = (h .0, h .1, decides-append es fs cs ds (h .2) k)
+
+-- numbers of two readings one after the other: a number other than 0 is final
+pub number-stops : (o o′ : Option ℕ) → numberOf o ≢ 0 → numberOf (orElse o o′) ≡ numberOf o
+unfolding numberOf orElse
+number-stops none o′ h = absurd (h refl)
+number-stops (some n) o′ h = refl
+
+pub number-goes-on : (o o′ : Option ℕ) → o ≡ none → numberOf (orElse o o′) ≡ numberOf o′
+unfolding orElse
+number-goes-on o o′ e = ap (λ p. numberOf (orElse p o′)) e
+
+-- ---- each sheet's own conditions, in 01's words
+
+abbrev pub ruleConditions : List ℕ → List {1} (ℕ × Type 0)
+ruleConditions s = (1, Meets1 s) ∷ (2, Meets2 s) ∷ []
+
+rules-decided : (s : List ℕ) → Decides (ruleRefusals s) (ruleConditions s)
+unfolding ruleRefusals
+rules-decided s = (refl, refuses1-iff s, (refl, refuses2-iff s, tt))
+
+abbrev pub factConditions : ℕ → List ℕ → List {1} (ℕ × Type 0)
+factConditions w s = (12, Meets12 w s) ∷ (13, Meets13 w s) ∷ []
+
+facts-decided : (w : ℕ) (s : List ℕ) → Decides (factRefusals w s) (factConditions w s)
+unfolding factRefusals
+facts-decided w s = (refl, refuses12-iff w s, (refl, refuses13-iff w s, tt))
+
+module _ (partners : List ℕ) (w : ℕ) where
+  abbrev pub questionConditions : List ℕ → List {1} (ℕ × Type 0)
+  questionConditions s = (3, Meets3 w s) ∷ (4, Meets4 (questionAsRead partners w s)) ∷ (5, Meets5 (questionAsRead partners w s)) ∷ []
+
+  question-decided : (s : List ℕ) → Decides (questionRefusals partners w s) (questionConditions s)
+  unfolding questionRefusals
+  question-decided s = (refl, refuses3-iff w s, (refl, refuses4-iff (questionAsRead partners w s), (refl, refuses5-twice (questionAsRead partners w s), tt)))
+
+-- the tests that the check of a union makes, in order
+abbrev pub unionTests : List Rule → Query → UCQ → List (ℕ × Bool)
+unionTests rules q union =
+    (7, refuses7 rules q union)
+    ∷ (8, refuses8 rules q union)
+    ∷ (9, refuses9 rules q union)
+    ∷ (10, refuses10 rules q union)
+    ∷ (11, refuses11 rules q union)
+    ∷ []
+
+union-decided : (rules : List Rule) (q : Query) (union : UCQ) → Decides (unionTests rules q union) (conditions rules q union)
+union-decided rules q union = (
+  refl,
+  refuses7-iff rules q union,
+  (refl, refuses8-iff rules q union, (refl, refuses9-iff rules q union, (refl, refuses10-iff rules q union, (refl, refuses11-iff rules q union, tt)))),
+)
+
+-- ---- the one list
+
+module _ (partners : List ℕ) (w : ℕ) (sheets : Sheets) where
+  -- the sheets as read
+  abbrev pub readRules : List Rule
+  readRules = rulesAsRead partners w (sheets .rules)
+
+  abbrev pub readQuestion : Query
+  readQuestion = questionAsRead partners w (sheets .question)
+
+  abbrev pub readUnion : UCQ
+  readUnion = unionAsRead partners w (sheets .union)
+
+  -- the union sheet's own test, for the question's number of answer terms
+  abbrev pub unionRefusals : List (ℕ × Bool)
+  unionRefusals = (6, refuses6 partners w (termCount (sheets .question) 0) (sheets .union)) ∷ []
+
+  -- "Checking a union uses 1 to 11, drawing answers all."
+  pub checking-tests : testsFor partners w checking sheets (refusals partners w)
+      ≡ ruleRefusals (sheets .rules) ++ (questionRefusals partners w (sheets .question) ++ (unionRefusals ++ unionTests readRules readQuestion readUnion))
+  unfolding testsFor refusals ruleRefusals questionRefusals
+  checking-tests = refl
+
+  pub drawing-tests : testsFor partners w drawing sheets (refusals partners w) ≡ testsFor partners w checking sheets (refusals partners w) ++ factRefusals w (sheets .facts)
+  unfolding testsFor refusals factRefusals
+  drawing-tests = refl
+
+  -- checking reads rules, question and union, then checks
+  pub checking-first : refusalOf partners w checking sheets
+      ≡ orElse (firstRefusal (ruleRefusals (sheets .rules))) (orElse (firstRefusal (questionRefusals partners w (sheets .question))) (orElse (firstRefusal unionRefusals) (check readRules readQuestion readUnion)))
+  unfolding refusalOf check
+  checking-first =
+      ap firstRefusal checking-tests
+      ∙ first-append (ruleRefusals (sheets .rules)) (questionRefusals partners w (sheets .question) ++ (unionRefusals ++ unionTests readRules readQuestion readUnion))
+      ∙ ap (orElse (firstRefusal (ruleRefusals (sheets .rules))))
+      (first-append (questionRefusals partners w (sheets .question)) (unionRefusals ++ unionTests readRules readQuestion readUnion)
+      ∙ ap (orElse (firstRefusal (questionRefusals partners w (sheets .question)))) (first-append unionRefusals (unionTests readRules readQuestion readUnion)))
+
+  -- drawing checks, then reads the facts
+  pub drawing-first : refusalOf partners w drawing sheets ≡ orElse (refusalOf partners w checking sheets) (firstRefusal (factRefusals w (sheets .facts)))
+  unfolding refusalOf
+  drawing-first = ap firstRefusal drawing-tests ∙ first-append (testsFor partners w checking sheets (refusals partners w)) (factRefusals w (sheets .facts))
+
+  -- a call that takes fewer sheets meets those sheets' refusals
+  pub rules-only : refusalOf partners w onlyRules sheets ≡ firstRefusal (ruleRefusals (sheets .rules))
+  unfolding refusalOf ruleRefusals
+  rules-only = refl
+
+  pub question-only : refusalOf partners w onlyQuestion sheets ≡ firstRefusal (questionRefusals partners w (sheets .question))
+  unfolding refusalOf questionRefusals
+  question-only = refl
+
+  pub facts-only : refusalOf partners w onlyFacts sheets ≡ firstRefusal (factRefusals w (sheets .facts))
+  unfolding refusalOf factRefusals
+  facts-only = refl
+
+  pub question-and-union : refusalOf partners w questionAndUnion sheets ≡ orElse (firstRefusal (questionRefusals partners w (sheets .question))) (firstRefusal unionRefusals)
+  unfolding refusalOf questionRefusals
+  question-and-union = first-append (questionRefusals partners w (sheets .question)) unionRefusals
+
+  -- ---- a call that is not refused
+
+  tests-positive : (takes : Which) (es : List Refusal) → T (all (λ e. ltb 0 (e .number)) es) → T (all (λ e. ltb 0 (e .0)) (testsFor partners w takes sheets es))
+  unfolding all testsFor
+  tests-positive takes [] h = tt
+  tests-positive takes (e ∷ es) h =
+      let parts = T-and (ltb 0 (e .number)) (all (λ e. ltb 0 (e .number)) es) .0 h in
+      let rest = tests-positive takes es (parts .1) in
+      elim (within (e .reads) takes) as (λ b. T (all (λ e. ltb 0 (e .0)) (pick b ((e .number, e .test sheets) ∷ testsFor partners w takes sheets es) (testsFor partners w takes sheets es)))) [
+        | true ↦ T-and (ltb 0 (e .number)) (all (λ e. ltb 0 (e .0)) (testsFor partners w takes sheets es)) .1 (parts .0, rest)
+        | false ↦ rest
+      ]
+
+  -- "A call that isn't refused returns number 0", and one that is refused does not
+  pub number-zero : (takes : Which) → (numberOf (refusalOf partners w takes sheets) ≡ 0) ↔ (refusalOf partners w takes sheets ≡ none)
+  unfolding refusalOf refusals all
+  number-zero takes = first-positive (testsFor partners w takes sheets (refusals partners w)) (tests-positive takes (refusals partners w) tt)
+
+  pub checked : (refusalOf partners w checking sheets ≡ none)
+      ↔ ((firstRefusal (ruleRefusals (sheets .rules)) ≡ none) × (firstRefusal (questionRefusals partners w (sheets .question)) ≡ none)
+      × (¬ T (refuses6 partners w (termCount (sheets .question) 0) (sheets .union))) × (check readRules readQuestion readUnion ≡ none))
+  checked =
+      let rules = firstRefusal (ruleRefusals (sheets .rules)) in
+      let question = firstRefusal (questionRefusals partners w (sheets .question)) in
+      let union = firstRefusal unionRefusals in
+      let step = check readRules readQuestion readUnion in
+      let six = one-none 6 (refuses6 partners w (termCount (sheets .question) 0) (sheets .union)) in
+      Iff·trans (none-along checking-first) (
+        λ e. let r = orElse-none rules (orElse question (orElse union step)) .0 e in
+            let q = orElse-none question (orElse union step) .0 (r .1) in
+            let u = orElse-none union step .0 (q .1) in (r .0, q .0, six .0 (u .0), u .1),
+        λ c. orElse-none rules (orElse question (orElse union step)) .1 (c .0, orElse-none question (orElse union step) .1 (c .1, orElse-none union step .1 (six .1 (c .2), c .3))),
+      )
+
+  pub drawn : (refusalOf partners w drawing sheets ≡ none) ↔ ((refusalOf partners w checking sheets ≡ none) × (firstRefusal (factRefusals w (sheets .facts)) ≡ none))
+  drawn = Iff·trans (none-along drawing-first) (orElse-none (refusalOf partners w checking sheets) (firstRefusal (factRefusals w (sheets .facts))))
+
+  -- what the agreement of both readers asks
+  pub checked-accepted : refusalOf partners w checking sheets ≡ none → SoundUnion readQuestion readUnion × Accepted readRules readQuestion readUnion
+  checked-accepted e =
+      let c = checked .0 e in
+      let not6 = subst (λ arity. ¬ T (refuses6 partners w arity (sheets .union))) (sym (question-arity partners w (sheets .question))) (c .2) in
+      (sound-union partners w (sheets .union) readQuestion not6, check-accepts readRules readQuestion readUnion .0 (c .3))
+
+  -- ---- 01's list: "The first entry whose condition holds decides, for the earlier ones not holding."
+
+  abbrev pub checkingConditions : List {1} (ℕ × Type 0)
+  checkingConditions =
+      ruleConditions (sheets .rules)
+      ++ (questionConditions partners w (sheets .question)
+      ++ ((6, Meets6 partners w (termCount (sheets .question) 0) (sheets .union)) ∷ conditions readRules readQuestion readUnion))
+
+  abbrev pub drawingConditions : List {1} (ℕ × Type 0)
+  drawingConditions = checkingConditions ++ factConditions w (sheets .facts)
+
+  checking-decided : Decides (testsFor partners w checking sheets (refusals partners w)) checkingConditions
+  checking-decided =
+      subst (λ tests. Decides tests checkingConditions) (sym checking-tests)
+      (decides-append (ruleRefusals (sheets .rules)) _ (ruleConditions (sheets .rules)) _ (rules-decided (sheets .rules))
+      (decides-append (questionRefusals partners w (sheets .question)) _ (questionConditions partners w (sheets .question)) _ (question-decided partners w (sheets .question))
+      (refl, refuses6-iff partners w (termCount (sheets .question) 0) (sheets .union), union-decided readRules readQuestion readUnion)))
+
+  drawing-decided : Decides (testsFor partners w drawing sheets (refusals partners w)) drawingConditions
+  drawing-decided =
+      subst (λ tests. Decides tests drawingConditions) (sym drawing-tests)
+      (decides-append (testsFor partners w checking sheets (refusals partners w)) (factRefusals w (sheets .facts)) checkingConditions (factConditions w (sheets .facts)) checking-decided (facts-decided w (sheets .facts)))
+
+  pub checking-refused-iff : (n : ℕ) → (refusalOf partners w checking sheets ≡ some n) ↔ First checkingConditions n
+  unfolding refusalOf
+  checking-refused-iff n = first-refusal-iff (testsFor partners w checking sheets (refusals partners w)) checkingConditions checking-decided n
+
+  pub checking-passed-iff : (refusalOf partners w checking sheets ≡ none) ↔ NoneHolds checkingConditions
+  unfolding refusalOf
+  checking-passed-iff = no-refusal-iff (testsFor partners w checking sheets (refusals partners w)) checkingConditions checking-decided
+
+  pub drawing-refused-iff : (n : ℕ) → (refusalOf partners w drawing sheets ≡ some n) ↔ First drawingConditions n
+  unfolding refusalOf
+  drawing-refused-iff n = first-refusal-iff (testsFor partners w drawing sheets (refusals partners w)) drawingConditions drawing-decided n
+
+  pub drawing-passed-iff : (refusalOf partners w drawing sheets ≡ none) ↔ NoneHolds drawingConditions
+  unfolding refusalOf
+  drawing-passed-iff = no-refusal-iff (testsFor partners w drawing sheets (refusals partners w)) drawingConditions drawing-decided

@@ -1,0 +1,7 @@
+-- The packed sheets, in reading order: Bits, Format, Partners, Refusals, Packing; and their laws.
+pub mod Bits
+pub mod Format
+pub mod Partners
+pub mod Refusals
+pub mod Packing
+pub mod Laws
