@@ -1,4 +1,5 @@
 -- 01, "What the desk turns back": refusals 1 to 13, as tests on the sheets, in one list.
+use mathlib.Core.Path.{_≡_}
 use Prim.Native.Nat.{ℕ, zero, suc, _+_, _*_, _/_, _%_, _^_}
 use mathlib.Core.Bool.{Bool, true, false, not, _&&_, _||_}
 use mathlib.Core.Option.{Option, none, some}
@@ -228,6 +229,11 @@ module _ (partners : List ℕ) (w : ℕ) where
   unfoldable pub refusalOf : Which → Sheets → Option ℕ
   unfolding refusals testsFor firstRefusal
   refusalOf takes sheets = firstRefusal (testsFor takes sheets refusals)
+
+  -- "Rules are sound if they meet neither 1 nor 2, a question if none of 3 to 5, a union if not 6, facts if neither 12 nor 13. A sheet's own
+  -- refusals that checking or drawing gains later count here too": sheets are sound if none of the list's refusals that read them applies.
+  abbrev pub Sound : Which → Sheets → Type 0
+  Sound takes sheets = refusalOf takes sheets ≡ none
 
 -- "A call that isn't refused returns number 0"
 unfoldable pub numberOf : Option ℕ → ℕ
