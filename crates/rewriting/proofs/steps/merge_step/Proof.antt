@@ -1,0 +1,11 @@
+use Rattle.rewriting.proofs.StepLaws.{mergeLaws}
+use Rattle.rewriting.proofs.steps.merge_step.Statement.{statement}
+use Rattle.rewriting.proofs.steps.merge_step.Tie as tie
+
+pub merge-step-spec : {M : Type 1} → statement M
+merge-step-spec =
+    tie.close
+    (tie.spec
+    (λ c κs. search mergeLaws) (λ c. search mergeLaws) (λ c κs. search mergeLaws) (λ c. search mergeLaws) (λ c. search mergeLaws)
+    (λ c. search mergeLaws) (λ c. search mergeLaws) (λ c. search mergeLaws) (λ c κs. search mergeLaws) (λ c κs. search mergeLaws)
+    (λ c κs. search mergeLaws) (λ c. search mergeLaws) (λ c. search mergeLaws))

@@ -1,0 +1,10 @@
+use Rattle.rewriting.proofs.StepLaws.{ruleLaws}
+use Rattle.rewriting.proofs.steps.rule_step.Statement.{statement}
+use Rattle.rewriting.proofs.steps.rule_step.Tie as tie
+
+pub rule-step-spec : {M : Type 1} → statement M
+rule-step-spec =
+    tie.close
+    (tie.spec
+    (λ c κs. search ruleLaws) (λ c. search ruleLaws) (λ c. search ruleLaws) (λ c. search ruleLaws) (λ c κs. search ruleLaws)
+    (λ c κs. search ruleLaws) (λ c κs. search ruleLaws) (λ c. search ruleLaws) (λ c. search ruleLaws))

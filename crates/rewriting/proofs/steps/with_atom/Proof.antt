@@ -1,0 +1,10 @@
+use Rattle.rewriting.proofs.StepLaws.{onceLaws}
+use Rattle.rewriting.proofs.steps.with_atom.Statement.{statement}
+use Rattle.rewriting.proofs.steps.with_atom.Tie as tie
+
+pub with-atom-spec : {M : Type 1} → statement M
+with-atom-spec =
+    tie.close
+    (tie.spec
+    (λ c κs. search onceLaws) (λ c. search onceLaws) (λ c. search onceLaws) (λ c. search onceLaws) (λ c. search onceLaws)
+    (λ c. search onceLaws))
