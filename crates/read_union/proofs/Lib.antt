@@ -1,2 +1,3 @@
 pub mod UnionLaws
 pub mod RowLaws
+pub mod MemberLaws

@@ -1,7 +1,7 @@
 -- What the reader of a union hands from one function to the next: a member's end, and a member's row of words.
 use mathlib.Core.Path.{_≡_}
 use Prim.Native.Nat.{ℕ, _+_, _≤_, _<_}
-use mathlib.Core.Bool.{true, _&&_}
+use mathlib.Core.Bool.{Bool, true, _&&_}
 use mathlib.Core.List.{List, _++_}
 use lib.Dec.{leb}
 use lib.ListN.{length}
@@ -15,9 +15,13 @@ use Rattle.words.specs.Words.{memberOf, stride}
 abbrev pub memberEnd : List ℕ → ℕ → ℕ
 memberEnd s at = at + 4 + questionLength 16 s (at + 4)
 
--- the same, if the member ends within the sheet and is sound, and else 0
+-- that member ends within the sheet and is sound
+abbrev pub wholeAndSound : List ℕ → ℕ → List ℕ → ℕ → Bool
+wholeAndSound partners arity s at = leb (memberEnd s at) (length s) && memberSoundAt partners 16 arity s (at + 4)
+
+-- its end, if it is whole and sound, and else 0
 abbrev pub endIfSound : List ℕ → ℕ → List ℕ → ℕ → ℕ
-endIfSound partners arity s at = pick (leb (memberEnd s at) (length s) && memberSoundAt partners 16 arity s (at + 4)) (memberEnd s at) 0
+endIfSound partners arity s at = pick (wholeAndSound partners arity s at) (memberEnd s at) 0
 
 -- the first n members stand within the sheet, and each has a sound question
 abbrev pub Readable : List ℕ → ℕ → Type 0

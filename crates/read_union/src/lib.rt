@@ -1,6 +1,6 @@
 // A union read into a table of 16 words a member, and the part of the sheet that holds a member's question.
 ghost use mathlib.Core.Path.{_≡_};
-ghost use mathlib.Core.Bool.{true, false, not, _&&_};
+ghost use mathlib.Core.Bool.{false, not, _&&_};
 ghost use mathlib.Core.List.{map};
 ghost use Prim.Native.Nat.{_+_, _≤_};
 ghost use lib.Dec.{eqb, ltb};
@@ -77,19 +77,19 @@ fn members_sound(s: &[u8], partners: &[u16], arity: usize, count: usize) -> bool
     ensures { λ r. ⌜ r ≡ (eqb (memberStart 16 (now (s .entry)) count) (length (now (s .entry))) && all (memberSound (now (partners .entry)) 16 arity (now (s .entry))) (numbers 0 count)) ⌝ }
 {
     let mut at: usize = 2;
-    let mut j: usize = 0;
-    while j < count {
+    let mut seen: usize = 0;
+    while seen < count {
         let end = checked_end(s, at, arity, partners);
         if end == 0 {
             return false;
         }
         at = end;
-        j += 1;
+        seen += 1;
     }
     at == s.len()
 }
 
-// Whether the sheet doesn't meet refusal 6, for a question with so many answer terms.
+// Whether the sheet doesn't meet 6 for a question with so many answer terms. A sheet longer than 512 members can be meets it.
 pub fn union_sound(s: &[u8], partners: &[u16], arity: usize) -> bool
     ensures { λ r. ⌜ r ≡ not (refuses6 (now (partners .entry)) 16 arity (now (s .entry))) ⌝ }
 {
@@ -105,7 +105,7 @@ pub fn union_sound(s: &[u8], partners: &[u16], arity: usize) -> bool
     }
 }
 
-// The words of a member: its step and its question.
+// The row of a member, from its step and its question.
 fn member_words(step: u64, q: QueryWords) -> [u64; 16]
     requires { ⌜ (q .terms ≤ 4) × (q .size ≤ 8) ⌝ }
     ensures { λ r. ⌜ RowOf (record { step = stepOf step; query = queryOf q }) r ⌝ }
@@ -134,7 +134,7 @@ fn member_words(step: u64, q: QueryWords) -> [u64; 16]
     ]
 }
 
-// A row is put into the table, from word `at` on.
+// Puts a row into the table, from word `at` on.
 fn put_row(table: &mut [u64], at: usize, row: [u64; 16])
     requires { ⌜ at + 16 ≤ length (now table) ⌝ }
     ensures { λ r. ⌜ now (table .exit) ≡ paste (now (table .entry)) at row 16 ⌝ }
@@ -146,31 +146,35 @@ fn put_row(table: &mut [u64], at: usize, row: [u64; 16])
     }
 }
 
-// The members of the sheet, as read, are put into the table's first rows.
+// Reads the first `count` members of the sheet into the table's first rows.
 fn fill_union(s: &[u8], partners: &[u16], table: &mut [u64], count: usize)
     requires { ⌜ (length (now s) ≤ 33282) × (count ≤ 512) × (8192 ≤ length (now table)) × Readable (now s) count ⌝ }
     ensures { λ r. ⌜ (length (now (table .exit)) ≡ length (now (table .entry))) × (unionIn (now (table .exit)) count ≡ map (memberAsRead (now (partners .entry))) (map (memberAt 16 (now (s .entry))) (numbers 0 count))) ⌝ }
 {
     let mut at: usize = 2;
-    let mut j: usize = 0;
-    while j < count {
+    let mut row: usize = 0;
+    while row < count {
         let step = four(s, at);
         let q = read_query(s, at + 4, partners);
-        put_row(table, 16 * j, member_words(step, q));
+        put_row(table, 16 * row, member_words(step, q));
         at = member_end(s, at);
-        j += 1;
+        row += 1;
     }
 }
 
+// What reading a union gives: the number of its refusal, or 0 and how many members the table has.
 pub struct UnionRead {
     pub number: u32,
     pub count: usize,
 }
 
-// The union is read into the table, 16 words a member, or refused.
+// Reads the union sheet into the table, 16 words a member, unless it meets 6 for a question with so many answer terms.
 pub fn read_union(s: &[u8], partners: &[u16], arity: usize, table: &mut [u64]) -> UnionRead
     requires { ⌜ 8192 ≤ length (now table) ⌝ }
-    ensures { λ r. ⌜ (r .number ≡ pick (refuses6 (now (partners .entry)) 16 arity (now (s .entry))) 6 0) × (length (now (table .exit)) ≡ length (now (table .entry))) × (r .number ≡ 0 → (r .count ≡ memberCount (now (s .entry))) × (1 ≤ r .count) × (r .count ≤ 512) × (unionIn (now (table .exit)) (r .count) ≡ unionAsRead (now (partners .entry)) 16 (now (s .entry)))) × (r .number ≡ 6 → r .count ≡ 0) ⌝ }
+    ensures number { λ r. ⌜ r .number ≡ pick (refuses6 (now (partners .entry)) 16 arity (now (s .entry))) 6 0 ⌝ }
+    ensures kept { λ _. ⌜ length (now (table .exit)) ≡ length (now (table .entry)) ⌝ }
+    ensures union { λ r. ⌜ (r .number ≡ 0 → (r .count ≡ memberCount (now (s .entry))) × (1 ≤ r .count) × (r .count ≤ 512) × (unionIn (now (table .exit)) (r .count) ≡ unionAsRead (now (partners .entry)) 16 (now (s .entry)))) ⌝ }
+    ensures refused { λ r. ⌜ ((r .number ≡ 0 → ⊥) → r .count ≡ 0) ⌝ }
 {
     if union_sound(s, partners, arity) {
         let count = two(s, 0) as usize;

@@ -1,28 +1,8 @@
-use Rattle.read_union.proofs.UnionLaws.{laws}
-use borrow.Author.Needs.{needs}
+use mathlib.Core.Path.{refl}
 use native.Mathlib.Omega.{arith}
+use Rattle.read_union.proofs.RowLaws.{laws}
 use Rattle.read_union.proofs.read_union.Statement.{statement}
 use Rattle.read_union.proofs.read_union.Tie as tie
 
-union-sound-requires : tie.Need-union-sound-requires
-union-sound-requires c κs = search needs
-
-two-requires : tie.Need-two-requires
-two-requires c κs = search laws
-
-fill-union-requires : tie.Need-fill-union-requires
-fill-union-requires c κs = search laws
-
-same-length : tie.Need-same-length
-same-length c = search needs
-
-returns : tie.Need-returns
-returns c = search laws
-
-returns-2 : tie.Need-returns-2
-returns-2 c = (search laws, search needs, λ z. absurd (omega arith), search needs)
-
 pub read-union-spec : {M : Type 1} → statement M
-read-union-spec =
-    tie.close
-    (tie.spec union-sound-requires two-requires fill-union-requires same-length returns returns-2)
+read-union-spec = tie.close (tie.spec (λ c κs. search laws) (λ c κs. search laws) (λ c κs. search laws) (λ c. search laws) (λ c. (search laws, (search laws, (λ z. search laws, λ f. absurd (f refl))))) (λ c. (search laws, (search laws, (λ z. absurd (omega arith), λ f. refl)))))
