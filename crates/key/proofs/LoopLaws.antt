@@ -1,0 +1,165 @@
+-- Loops over a query's words: what is added up so far is the total over the words so far, and in the end that over the query.
+use mathlib.Core.Path.{_≡_, refl, sym, ap, ap₂, _∙_}
+use Prim.Native.Nat.{ℕ, zero, suc, _+_, _*_, _≤_, _<_}
+use native.Mathlib.Numerals.{add-one}
+use native.Mathlib.Nat.{le-antisymm, add-zero, zero-add}
+use native.Mathlib.Omega.{arith}
+use mathlib.Core.List.{List, [], _∷_, map, List·Memᴰ·head, Memᴰ·append-right, Memᴰ·map, Memᴰ·cast}
+use lib.ListN.{length, getD, take, replicate, getD-replicate}
+use lib.Seq.{split-at, getD-take, length-take-le}
+use borrow.Author.Needs.{needs}
+use Rattle.theory.specs.Lists.{_∈_}
+use Rattle.theory.specs.Syntax.{Term}
+use Rattle.theory.specs.Laws.Lists.{mem-along}
+use Rattle.theory.specs.Laws.Counting.{total}
+use Rattle.theory.specs.Laws.Syntax.{terms-answers, terms-atoms}
+use Rattle.words.specs.Records.{termOf, atomOf}
+use Rattle.words.specs.Words.{TermWords, queryOf, Small}
+use Rattle.words.specs.declared.QueryWords.{QueryWords}
+use Rattle.key.specs.Key.{top, mix, along, mixAnswer, mixAtom, given, givenBy, shapeBy, next, shapes}
+use Rattle.key.specs.Shapes.{LowTerm, LowAtom, listed, Listed, Plus, Upto}
+use Rattle.key.proofs.TermLaws.{given-le, givenBy-le}
+
+-- ---- the word at index i
+
+word-in : (words : List ℕ) (i n : ℕ) → i < n → n ≤ length words → getD words i 0 ∈ take n words
+word-in words i n h g =
+    mem-along (sym (split-at (take n words) i 0 (rw (length-take-le n words g) h)))
+    (Memᴰ·append-right (take i (take n words)) (List·Memᴰ·head (sym (getD-take n words i 0 h))))
+
+pub word-below : (words : List ℕ) (i : ℕ) → TermWords words → getD words i 0 < 33554432
+word-below words i h = h i
+
+module _ (q : QueryWords) (i : ℕ) (s : Small q) where
+  pub answer-low : length (q .answers) ≡ 4 → i < q .terms → LowTerm (getD (q .answers) i 0)
+  unfolding queryOf
+  answer-low l h v e =
+      let f = s .few-terms in
+      s .variables v (terms-answers (queryOf q) (Memᴰ·cast e (Memᴰ·map (termOf 24) (word-in (q .answers) i (q .terms) h (omega arith)))))
+
+  pub atom-low : length (q .atoms) ≡ 8 → i < q .size → LowAtom (getD (q .atoms) i 0)
+  unfolding queryOf
+  atom-low l h v m =
+      let f = s .few-atoms in
+      s .variables v (terms-atoms (queryOf q) (Memᴰ·map (atomOf 24) (word-in (q .atoms) i (q .size) h (omega arith))) m)
+
+-- ---- one word more
+
+module _ {X : Type 0} (g : ℕ → X) where
+  total-take : (w : X → ℕ) (words : List ℕ) (i : ℕ) → i < length words → total w (map g (take (suc i) words)) ≡ total w (map g (take i words)) + w (g (getD words i 0))
+  unfolding total
+  total-take w [] i h = absurd (omega arith)
+  total-take w (x ∷ xs) zero h = omega arith
+  total-take w (x ∷ xs) (suc i) h = omega (arith, total-take w xs i (omega arith))
+
+  along-take : (w : ℕ → X → ℕ) (k : ℕ) (words : List ℕ) (i : ℕ) → i < length words → along w k (map g (take (suc i) words)) ≡ along w k (map g (take i words)) + w (k + i) (g (getD words i 0))
+  unfolding along
+  along-take w k [] i h = absurd (omega arith)
+  along-take w k (x ∷ xs) zero h = rw (add-zero k) (omega arith)
+  along-take w k (x ∷ xs) (suc i) h =
+      let e : k + suc i ≡ suc k + i = omega arith in
+      rw e (omega (arith, along-take w (suc k) xs i (omega arith)))
+
+  total-next : (w : X → ℕ) (words : List ℕ) (i x y : ℕ) → i < length words → x ≡ total w (map g (take i words)) → y ≡ w (g (getD words i 0)) → x + y ≡ total w (map g (take (i + 1) words))
+  total-next w words i x y h e d = ap₂ _+_ e d ∙ sym (ap (λ k. total w (map g (take k words))) (add-one i) ∙ total-take w words i h)
+
+  along-next : (w : ℕ → X → ℕ) (words : List ℕ) (i x y : ℕ) → i < length words → x ≡ along w 0 (map g (take i words)) → y ≡ w i (g (getD words i 0)) → x + y ≡ along w 0 (map g (take (i + 1) words))
+  along-next w words i x y h e d =
+      ap₂ _+_ e (d ∙ ap (λ k. w k (g (getD words i 0))) (sym (zero-add i)))
+      ∙ sym (ap (λ k. along w 0 (map g (take k words))) (add-one i) ∙ along-take w 0 words i h)
+
+-- ---- sums so far
+
+module _ (s : Term → ℕ) where
+  unfoldable pub answersSum : List ℕ → ℕ → ℕ
+  answersSum answers i = along (mixAnswer s) 0 (map (termOf 24) (take i answers))
+
+  unfoldable pub atomsSum : List ℕ → ℕ → ℕ
+  atomsSum atoms i = total (mixAtom s) (map (atomOf 24) (take i atoms))
+
+  pub no-answers : (answers : List ℕ) → 0 ≡ answersSum answers 0
+  unfolding answersSum along
+  no-answers answers = refl
+
+  pub no-atoms : (atoms : List ℕ) → 0 ≡ atomsSum atoms 0
+  unfolding atomsSum total
+  no-atoms atoms = refl
+
+  module _ (q : QueryWords) (i sum : ℕ) where
+    pub answer-added : (r x : ℕ) → length (q .answers) ≡ 4 → q .terms ≤ 4 → i < q .terms → sum ≡ answersSum (q .answers) i → x ≡ s (termOf 24 (getD (q .answers) i 0)) → r ≡ mix (4 * i + 1) x 0 → sum + r ≡ answersSum (q .answers) (i + 1)
+    unfolding answersSum mixAnswer
+    answer-added r x l f h e xe re = along-next (termOf 24) (mixAnswer s) (q .answers) i sum r (omega arith) e (re ∙ ap (λ y. mix (4 * i + 1) y 0) xe)
+
+    pub atom-added : (r : ℕ) → length (q .atoms) ≡ 8 → q .size ≤ 8 → i < q .size → sum ≡ atomsSum (q .atoms) i → r ≡ mixAtom s (atomOf 24 (getD (q .atoms) i 0)) → sum + r ≡ atomsSum (q .atoms) (i + 1)
+    unfolding atomsSum
+    atom-added r l f h e re = total-next (atomOf 24) (mixAtom s) (q .atoms) i sum r (omega arith) e re
+
+    pub answers-added : i ≤ q .terms → q .terms ≤ i → sum ≡ answersSum (q .answers) i → sum ≡ along (mixAnswer s) 0 (queryOf q .answers)
+    unfolding answersSum queryOf
+    answers-added h g e = e ∙ ap (λ k. along (mixAnswer s) 0 (map (termOf 24) (take k (q .answers)))) (le-antisymm h g)
+
+    pub atoms-added : i ≤ q .size → q .size ≤ i → sum ≡ atomsSum (q .atoms) i → sum ≡ total (mixAtom s) (queryOf q .atoms)
+    unfolding atomsSum queryOf
+    atoms-added h g e = e ∙ ap (λ k. total (mixAtom s) (map (atomOf 24) (take k (q .atoms)))) (le-antisymm h g)
+
+-- ---- what is given so far
+
+unfoldable pub answersGive : List ℕ → ℕ → ℕ → ℕ
+answersGive answers i v = along (λ j t. given t (mixAnswer (λ u. 0) j t) v) 0 (map (termOf 24) (take i answers))
+
+unfoldable pub atomsGive : (Term → ℕ) → List ℕ → ℕ → ℕ → ℕ
+atomsGive s atoms i v = total (λ a. givenBy s a v) (map (atomOf 24) (take i atoms))
+
+-- at first nothing
+pub none-given : Upto 0 (replicate 32 0)
+none-given = record { long = refl; upto = λ v h. omega (arith, getD-replicate {A = ℕ} 32 v 0 0 h) }
+
+pub no-answer-gave : (answers : List ℕ) → Listed (answersGive answers 0) (replicate 32 0)
+unfolding answersGive along
+no-answer-gave answers = record { says = λ v h. getD-replicate {A = ℕ} 32 v 0 0 h }
+
+pub no-atom-gave : (s : Term → ℕ) (atoms : List ℕ) → Listed (atomsGive s atoms 0) (replicate 32 0)
+unfolding atomsGive total
+no-atom-gave s atoms = record { says = λ v h. getD-replicate {A = ℕ} 32 v 0 0 h }
+
+-- there is room for more
+pub answer-room : (i n : ℕ) (l : List ℕ) → i < n → n ≤ 4 → Upto i l → Upto 32 l
+answer-room i n l h f b = record { long = b .long; upto = λ v k. omega (arith, b .upto v k) }
+
+pub atom-room : (i n : ℕ) (l : List ℕ) → i < n → n ≤ 8 → Upto (2 * i) l → Upto 16 l
+atom-room i n l h f b = record { long = b .long; upto = λ v k. omega (arith, b .upto v k) }
+
+pub answer-upto : (i t w : ℕ) (l m : List ℕ) → Upto i l → w < top → Plus (given (termOf 24 t) w) l m → Upto (i + 1) m
+answer-upto i t w l m b h g = record { long = g .as-long ∙ b .long; upto = λ v k. omega (arith, b .upto v k, g .plus v k, given-le (termOf 24 t) w v) }
+
+pub atom-upto : (s : Term → ℕ) (i a : ℕ) (l m : List ℕ) → Upto (2 * i) l → Plus (givenBy s (atomOf 24 a)) l m → Upto (2 * (i + 1)) m
+atom-upto s i a l m b g = record { long = g .as-long ∙ b .long; upto = λ v k. omega (arith, b .upto v k, g .plus v k, givenBy-le s (atomOf 24 a) v) }
+
+-- one word gives
+pub answer-gave : (q : QueryWords) (i w : ℕ) (l m : List ℕ) → length (q .answers) ≡ 4 → q .terms ≤ 4 → i < q .terms → Listed (answersGive (q .answers) i) l → w ≡ mix (4 * i + 1) 0 0 → Plus (given (termOf 24 (getD (q .answers) i 0)) w) l m → Listed (answersGive (q .answers) (i + 1)) m
+unfolding answersGive mixAnswer
+answer-gave q i w l m len f h e we g = record {
+  says = λ v k.
+      g .plus v k
+      ∙ along-next (termOf 24) (λ j t. given t (mixAnswer (λ u. 0) j t) v) (q .answers) i (listed l v) (given (termOf 24 (getD (q .answers) i 0)) w v) (omega arith) (e .says v k)
+      (ap (λ y. given (termOf 24 (getD (q .answers) i 0)) y v) we);
+}
+
+pub atom-gave : (s : Term → ℕ) (q : QueryWords) (i : ℕ) (l m : List ℕ) → length (q .atoms) ≡ 8 → q .size ≤ 8 → i < q .size → Listed (atomsGive s (q .atoms) i) l → Plus (givenBy s (atomOf 24 (getD (q .atoms) i 0))) l m → Listed (atomsGive s (q .atoms) (i + 1)) m
+unfolding atomsGive
+atom-gave s q i l m len f h e g = record {
+  says = λ v k.
+      g .plus v k
+      ∙ total-next (atomOf 24) (λ a. givenBy s a v) (q .atoms) i (listed l v) (givenBy s (atomOf 24 (getD (q .atoms) i 0)) v) (omega arith) (e .says v k) refl;
+}
+
+-- all have given
+pub answers-gave : (q : QueryWords) (i : ℕ) (l : List ℕ) → i ≤ q .terms → q .terms ≤ i → Listed (answersGive (q .answers) i) l → Listed (shapes 0 (queryOf q)) l
+unfolding answersGive queryOf shapes
+answers-gave q i l h g e = record { says = λ v k. e .says v k ∙ ap (λ n. answersGive (q .answers) n v) (le-antisymm h g) }
+
+pub atoms-gave : (h : ℕ → ℕ) (q : QueryWords) (i : ℕ) (l : List ℕ) → i ≤ q .size → q .size ≤ i → Listed (atomsGive (shapeBy h) (q .atoms) i) l → Listed (next (queryOf q) h) l
+unfolding atomsGive queryOf next
+atoms-gave h q i l f g e = record { says = λ v k. e .says v k ∙ ap (λ n. atomsGive (shapeBy h) (q .atoms) n v) (le-antisymm f g) }
+
+pub ruleset laws = (needs, word-below, answer-low, atom-low, no-answers, no-atoms, answer-added, atom-added, answers-added, atoms-added, none-given, no-answer-gave, no-atom-gave, answer-room, atom-room, answer-upto, atom-upto, answer-gave, atom-gave, answers-gave, atoms-gave)

@@ -1,0 +1,177 @@
+-- Numbers, terms and atoms: what the code computes of one word is what the definitions say.
+use mathlib.Core.Path.{_≡_, refl, sym, ap, _∙_, subst}
+use Prim.Native.Nat.{ℕ, _+_, _*_, _/_, _%_, _≤_, _<_}
+use native.Mathlib.Nat.{add-zero, mul-le-mul-left, mul-le-mul-right}
+use native.Mathlib.Decide.{ℕ-discrete}
+use native.Mathlib.Omega.{arith}
+use mathlib.Core.Bool.{Bool, true, false}
+use mathlib.Core.List.{List, List·Memᴰ·head, List·Memᴰ·tail}
+use lib.Dec.{eqb}
+use lib.ListN.{getD, set, length-set}
+use lib.Seq.{getD-set-same, getD-set-other}
+use borrow.Author.Needs.{needs}
+use borrow.Author.Tests.{eq-eqb, ne-eqb, eqb-true, eqb-false}
+use Rattle.theory.specs.Lists.{_∈_, pick}
+use Rattle.theory.specs.Syntax.{Term, var, const, Atom, concept, role, args, sameTerm}
+use Rattle.words.specs.Records.{field, termOf, atomOf}
+use Rattle.key.specs.Key.{scramble, top, mix, mixAtom, given, givenBy, shapeBy}
+use Rattle.key.specs.Shapes.{LowTerm, LowAtom, listed, Plus, Upto}
+
+-- ---- numbers
+
+pub product-below : (m : ℕ) → (m % 536870909) * (m % 536870879) < top
+product-below m =
+    let a : m % 536870909 ≤ 536870908 = omega arith in
+    let b : m % 536870879 ≤ 536870878 = omega arith in
+    omega (arith, mul-le-mul-left (m % 536870909) b, mul-le-mul-right 536870878 a)
+
+pub product-fits : (m : ℕ) → (m % 536870909) * (m % 536870879) < 18446744073709551616
+product-fits m = omega (arith, product-below m)
+
+pub scramble-made : (m : ℕ) → (m % 536870909) * (m % 536870879) ≡ scramble m
+unfolding scramble
+scramble-made m = refl
+
+scramble-below : (m : ℕ) → scramble m < top
+scramble-below m = subst (λ n. n < top) (scramble-made m) (product-below m)
+
+pub mix-made : (code x y r : ℕ) → r ≡ scramble (code * 47615012787481 + x % 2147483647 * 1678998313 + y % 2147483647 * 1560889471) → r ≡ mix code x y
+unfolding mix
+mix-made code x y r e = e
+
+-- ---- the term of a word
+
+low-word : (t : ℕ) → t < 32 → termOf 24 t ≡ var t
+unfolding termOf
+low-word t h =
+    let e : t / 16777216 ≡ 0 = omega arith in
+    let d : t % 16777216 ≡ t = omega arith in
+    simp (eq-eqb (t / 16777216) 0 e, d)
+
+object-word : (t : ℕ) → t < 33554432 → LowTerm t → 32 ≤ t → (c : ℕ) × (termOf 24 t ≡ const c) × (t ≡ 16777216 + c)
+unfolding termOf
+object-word t h low l = go (eqb (t / 16777216) 0) refl low
+  where
+    go : (b : Bool) → eqb (t / 16777216) 0 ≡ b → ((v : ℕ) → var v ≡ pick b (var (t % 16777216)) (const (t % 16777216)) → v < 32) → (c : ℕ) × (pick b (var (t % 16777216)) (const (t % 16777216)) ≡ const c) × (t ≡ 16777216 + c)
+    go true e below = absurd (omega (arith, eqb-true (t / 16777216) 0 e, below (t % 16777216) refl))
+    go false e below = (t % 16777216, refl, omega (arith, eqb-false (t / 16777216) 0 e))
+
+pub variable-shape : (l : List ℕ) (t : ℕ) → t < 32 → getD l t 0 ≡ shapeBy (listed l) (termOf 24 t)
+variable-shape l t h = sym (ap (shapeBy (listed l)) (low-word t h))
+
+pub object-shape : (h : ℕ → ℕ) (t : ℕ) → t < 33554432 → LowTerm t → 32 ≤ t → t ≡ shapeBy h (termOf 24 t)
+object-shape h t below low l = let w = object-word t below low l in w .2 ∙ sym (ap (shapeBy h) (w .1))
+
+-- ---- the atom of a word
+
+concept-word : (a : ℕ) → field 63 1 a ≡ 0 → atomOf 24 a ≡ concept (field 50 12 a) (termOf 24 (field 25 25 a))
+unfolding atomOf
+concept-word a e = simp (eq-eqb (field 63 1 a) 0 e)
+
+role-word : (a : ℕ) → (field 63 1 a ≡ 0 → ⊥) → atomOf 24 a ≡ role (field 50 12 a) (termOf 24 (field 25 25 a)) (termOf 24 (field 0 25 a))
+unfolding atomOf
+role-word a e = simp (ne-eqb (field 63 1 a) 0 e)
+
+pub first-low : (a t : ℕ) → LowAtom a → t ≡ field 25 25 a → LowTerm t
+first-low a t low e v d =
+    elim (ℕ-discrete (field 63 1 a) 0) [
+      | yes k ↦ low v (subst (λ x. var v ∈ args x) (sym (concept-word a k)) (List·Memᴰ·head (d ∙ ap (termOf 24) e)))
+      | no k ↦ low v (subst (λ x. var v ∈ args x) (sym (role-word a k)) (List·Memᴰ·head (d ∙ ap (termOf 24) e)))
+    ]
+
+pub second-low : (a t k : ℕ) → LowAtom a → k ≡ field 63 1 a → (k ≡ 0 → ⊥) → t ≡ field 0 25 a → LowTerm t
+second-low a t k low ka z e v d =
+    low v (subst (λ x. var v ∈ args x) (sym (role-word a (λ y. z (ka ∙ y)))) (List·Memᴰ·tail (List·Memᴰ·head (d ∙ ap (termOf 24) e))))
+
+-- ---- the number of an atom
+
+pub one-term : (b c : Bool) → b ≡ c → b ≡ true → _≡_ {A = ℕ} 4 (pick c 4 3)
+one-term b c e d = simp (sym e ∙ d)
+
+pub two-terms : (b c : Bool) → b ≡ c → b ≡ false → _≡_ {A = ℕ} 3 (pick c 4 3)
+two-terms b c e d = simp (sym e ∙ d)
+
+module _ (s : Term → ℕ) (a k n t x r : ℕ) (ka : k ≡ field 63 1 a) (na : n ≡ field 50 12 a) (ta : t ≡ field 25 25 a) (xt : x ≡ s (termOf 24 t)) where
+  pub concept-mixed : k ≡ 0 → r ≡ mix (4 * n + 2) x 0 → r ≡ mixAtom s (atomOf 24 a)
+  unfolding mixAtom
+  concept-mixed z e = e ∙ sym (simp (concept-word a (sym ka ∙ z), sym na, sym ta, sym xt))
+
+  pub role-mixed : (u y c : ℕ) → (k ≡ 0 → ⊥) → u ≡ field 0 25 a → y ≡ s (termOf 24 u) → c ≡ pick (sameTerm (termOf 24 t) (termOf 24 u)) 4 3 → r ≡ mix (4 * n + c) x y → r ≡ mixAtom s (atomOf 24 a)
+  unfolding mixAtom
+  role-mixed u y c z ua yu cp e = e ∙ sym (simp (role-word a (λ w. z (ka ∙ w)), sym na, sym ta, sym ua, sym xt, sym yu, sym cp))
+
+-- ---- what a place gives
+
+pub given-fits : (l : List ℕ) (t w : ℕ) → t < 32 → w < top → Upto 32 l → getD l t 0 + w < 18446744073709551616
+given-fits l t w h k b = omega (arith, b .upto t h)
+
+given-low : (t w v : ℕ) → t < 32 → given (termOf 24 t) w v ≡ pick (eqb t v) w 0
+unfolding given sameTerm
+given-low t w v h = simp (low-word t h)
+
+pub given-variable : (l : List ℕ) (t w : ℕ) → Upto 32 l → t < 32 → Plus (given (termOf 24 t) w) l (set l t (getD l t 0 + w))
+given-variable l t w b h = record {
+  as-long = length-set l t (getD l t 0 + w);
+  plus = λ v k. elim (ℕ-discrete v t) [
+    | yes e ↦
+        ap (listed (set l t (getD l t 0 + w))) e ∙ getD-set-same l t (getD l t 0 + w) 0 (omega (arith, b .long))
+        ∙ ap (λ x. listed l x + w) (sym e) ∙ ap (λ x. listed l v + x) (sym (given-low t w v h ∙ simp (eq-eqb t v (sym e))))
+    | no d ↦
+        getD-set-other l t v (getD l t 0 + w) 0 d ∙ sym (add-zero (listed l v))
+        ∙ ap (λ x. listed l v + x) (sym (given-low t w v h ∙ simp (ne-eqb t v (λ e. d (sym e)))))
+  ];
+}
+
+pub given-object : (l : List ℕ) (t w : ℕ) → t < 33554432 → LowTerm t → 32 ≤ t → Plus (given (termOf 24 t) w) l l
+unfolding given sameTerm
+given-object l t w below low h = record { as-long = refl; plus = λ v k. sym (simp (object-word t below low h .1, add-zero)) }
+
+pub given-le : (t : Term) (w v : ℕ) → given t w v ≤ w
+unfolding given
+given-le t w v = elim (sameTerm t (var v)) as (λ b. pick b w 0 ≤ w) [ true ↦ omega arith | false ↦ omega arith ]
+
+-- ---- what an atom gives
+
+pub first-room : (l : List ℕ) → Upto 16 l → Upto 32 l
+first-room l b = record { long = b .long; upto = λ v k. omega (arith, b .upto v k) }
+
+pub second-room : (l m : List ℕ) (t w : ℕ) → Upto 16 l → w < top → Plus (given (termOf 24 t) w) l m → Upto 32 m
+second-room l m t w b h g = record { long = g .as-long ∙ b .long; upto = λ v k. omega (arith, b .upto v k, g .plus v k, given-le (termOf 24 t) w v) }
+
+-- no more than two numbers
+mix-below : (code x y : ℕ) → mix code x y < top
+unfolding mix
+mix-below code x y = scramble-below (code * 47615012787481 + x % 2147483647 * 1678998313 + y % 2147483647 * 1560889471)
+
+pub givenBy-le : (s : Term → ℕ) (a : Atom Term) (v : ℕ) → givenBy s a v ≤ 2 * top
+unfolding givenBy mixAtom
+givenBy-le s (concept A t) v =
+    let w = mixAtom s (concept A t) in
+    let h : w < top = mix-below (4 * A + 2) (s t) 0 in
+    omega (arith, given-le t w v)
+givenBy-le s (role P t u) v =
+    let w = mixAtom s (role P t u) in
+    let h : w < top = mix-below (4 * P + pick (sameTerm t u) 4 3) (s t) (s u) in
+    omega (arith, given-le t w v, given-le u (scramble w) v, scramble-below w)
+
+concept-gives : (s : Term → ℕ) (a v : ℕ) → field 63 1 a ≡ 0 → givenBy s (atomOf 24 a) v ≡ given (termOf 24 (field 25 25 a)) (mixAtom s (atomOf 24 a)) v
+unfolding givenBy
+concept-gives s a v e = rw (concept-word a e)
+
+role-gives : (s : Term → ℕ) (a v : ℕ) → (field 63 1 a ≡ 0 → ⊥) → givenBy s (atomOf 24 a) v ≡ given (termOf 24 (field 25 25 a)) (mixAtom s (atomOf 24 a)) v + given (termOf 24 (field 0 25 a)) (scramble (mixAtom s (atomOf 24 a))) v
+unfolding givenBy
+role-gives s a v e = rw (role-word a e)
+
+module _ (s : Term → ℕ) (l m : List ℕ) (a k t w : ℕ) (ka : k ≡ field 63 1 a) (ta : t ≡ field 25 25 a) (wa : w ≡ mixAtom s (atomOf 24 a)) (g : Plus (given (termOf 24 t) w) l m) where
+  pub concept-given : k ≡ 0 → Plus (givenBy s (atomOf 24 a)) l m
+  concept-given z = record { as-long = g .as-long; plus = λ v h. g .plus v h ∙ ap (λ x. listed l v + x) (sym (concept-gives s a v (sym ka ∙ z) ∙ simp (sym ta, sym wa))) }
+
+  pub role-given : (u x : ℕ) (n : List ℕ) → (k ≡ 0 → ⊥) → u ≡ field 0 25 a → x ≡ scramble w → Plus (given (termOf 24 u) x) m n → Plus (givenBy s (atomOf 24 a)) l n
+  role-given u x n z ua xw h = record {
+    as-long = h .as-long ∙ g .as-long;
+    plus = λ v j.
+        (let e : givenBy s (atomOf 24 a) v ≡ given (termOf 24 t) w v + given (termOf 24 u) x v = role-gives s a v (λ y. z (ka ∙ y)) ∙ simp (sym ta, sym ua, sym wa, sym xw) in
+        omega (arith, e, g .plus v j, h .plus v j));
+  }
+
+pub ruleset laws = (needs, product-below, product-fits, scramble-made, mix-made, variable-shape, object-shape, first-low, second-low, one-term, two-terms, concept-mixed, role-mixed, given-fits, given-variable, given-object, first-room, second-room, concept-given, role-given)

@@ -1,0 +1,35 @@
+-- The shapes of variables as the code keeps them, in a list of 32 numbers. 01: "Variables are 0 to 31".
+use mathlib.Core.Path.{_≡_}
+use Prim.Native.Nat.{ℕ, _+_, _*_, _≤_, _<_}
+use mathlib.Core.List.{List}
+use lib.ListN.{length, getD}
+use Rattle.theory.specs.Lists.{_∈_}
+use Rattle.theory.specs.Syntax.{var, args}
+use Rattle.words.specs.Records.{termOf, atomOf}
+use Rattle.key.specs.Key.{top}
+
+-- the word's term is no variable from 32 on
+abbrev pub LowTerm : ℕ → Type 0
+LowTerm t = (v : ℕ) → var v ≡ termOf 24 t → v < 32
+
+-- nor is any term of the word's atom
+abbrev pub LowAtom : ℕ → Type 0
+LowAtom a = (v : ℕ) → var v ∈ args (atomOf 24 a) → v < 32
+
+-- what a list says of a variable
+abbrev pub listed : List ℕ → ℕ → ℕ
+listed l v = getD l v 0
+
+-- the list says what h says
+pub record Listed (h : ℕ → ℕ) (l : List ℕ) : Type 0 where
+  pub says : (v : ℕ) → v < 32 → listed l v ≡ h v
+
+-- the list m has for each variable what g says more than l
+pub record Plus (g : ℕ → ℕ) (l m : List ℕ) : Type 0 where
+  pub as-long : length m ≡ length l
+  pub plus : (v : ℕ) → v < 32 → listed m v ≡ listed l v + g v
+
+-- the list has 32 numbers, and each is a sum of at most n numbers below the top
+pub record Upto (n : ℕ) (l : List ℕ) : Type 0 where
+  pub long : length l ≡ 32
+  pub upto : (v : ℕ) → v < 32 → listed l v ≤ n * top

@@ -1,0 +1,160 @@
+// The key of a query: alike queries share it.
+use words::QueryWords;
+use words::first_term;
+use words::kind_of;
+use words::number_of;
+use words::same_term;
+use words::second_term;
+ghost use mathlib.Core.Path.{_≡_};
+ghost use Prim.Native.Nat.{_+_, _*_, _≤_, _<_};
+ghost use Rattle.theory.specs.Lists.{pick};
+ghost use Rattle.theory.specs.Syntax.{sameTerm};
+ghost use Rattle.theory.specs.Laws.Counting.{total};
+ghost use Rattle.words.specs.Records.{termOf, atomOf};
+ghost use Rattle.words.specs.Words.{queryOf, Small};
+ghost use Rattle.key.specs.Key.{scramble, top, mix, along, mixAnswer, mixAtom, given, givenBy, shapeBy, next, shapes as shapesAfter, key};
+ghost use Rattle.key.specs.Shapes.{LowTerm, LowAtom, listed, Listed, Plus, Upto};
+
+// The number scrambled.
+fn scrambled(m: u64) -> u64
+    ensures { λ r. ⌜ (r ≡ scramble m) × (r < top) ⌝ }
+{
+    m % 536870909 * (m % 536870879)
+}
+
+// A code and two numbers as one number.
+fn mixed(code: u64, x: u64, y: u64) -> u64
+    requires { ⌜ code < 65536 ⌝ }
+    ensures { λ r. ⌜ (r ≡ mix code x y) × (r < top) ⌝ }
+{
+    scrambled(code * 47615012787481 + x % 2147483647 * 1678998313 + y % 2147483647 * 1560889471)
+}
+
+// The shape of a term: the word of an object, and what is listed of a variable.
+fn shape_of(shapes: &[u64; 32], t: u64) -> u64
+    requires { ⌜ (t < 33554432) × LowTerm t ⌝ }
+    ensures { λ r. ⌜ r ≡ shapeBy (listed (now (shapes .entry))) (termOf 24 t) ⌝ }
+{
+    if t < 32 { shapes[t as usize] } else { t }
+}
+
+// 4 where both places of a role atom hold one term, else 3.
+fn role_code(t: u64, u: u64) -> u64
+    requires { ⌜ (t < 33554432) × (u < 33554432) ⌝ }
+    ensures { λ r. ⌜ (r ≡ pick (sameTerm (termOf 24 t) (termOf 24 u)) 4 3) × (r ≤ 4) ⌝ }
+{
+    if same_term(t, u) { 4 } else { 3 }
+}
+
+// The number of an atom.
+fn mixed_atom(shapes: &[u64; 32], a: u64) -> u64
+    requires { ⌜ LowAtom a ⌝ }
+    ensures { λ r. ⌜ (r ≡ mixAtom (shapeBy (listed (now (shapes .entry)))) (atomOf 24 a)) × (r < top) ⌝ }
+{
+    let t = first_term(a);
+    let x = shape_of(shapes, t);
+    if kind_of(a) == 0 {
+        mixed(4 * number_of(a) + 2, x, 0)
+    } else {
+        let u = second_term(a);
+        let y = shape_of(shapes, u);
+        mixed(4 * number_of(a) + role_code(t, u), x, y)
+    }
+}
+
+// Puts w more into the list for the term, if it is a variable.
+fn give(all: &mut [u64; 32], t: u64, w: u64)
+    requires { ⌜ (t < 33554432) × LowTerm t × (w < top) × Upto 32 (now all) ⌝ }
+    ensures { λ r. ⌜ Plus (given (termOf 24 t) w) (now (all .entry)) (now (all .exit)) ⌝ }
+{
+    if t < 32 {
+        all[t as usize] += w;
+    }
+}
+
+// Puts into the list what the atom gives to each variable, by the shapes before.
+fn give_atom(all: &mut [u64; 32], shapes: &[u64; 32], a: u64)
+    requires { ⌜ LowAtom a × Upto 16 (now all) ⌝ }
+    ensures { λ r. ⌜ Plus (givenBy (shapeBy (listed (now (shapes .entry)))) (atomOf 24 a)) (now (all .entry)) (now (all .exit)) ⌝ }
+{
+    let w = mixed_atom(shapes, a);
+    give(all, first_term(a), w);
+    if kind_of(a) != 0 {
+        give(all, second_term(a), scrambled(w));
+    }
+}
+
+// The first shapes: what the answer positions give.
+fn first_shapes(q: QueryWords) -> [u64; 32]
+    requires { ⌜ Small q ⌝ }
+    ensures { λ r. ⌜ Listed (shapesAfter 0 (queryOf q)) r ⌝ }
+{
+    let answers = q.answers;
+    let n = q.terms;
+    let mut all = [0u64; 32];
+    let mut i: usize = 0;
+    while i < n {
+        give(&mut all, answers[i], mixed(4 * (i as u64) + 1, 0, 0));
+        i += 1;
+    }
+    all
+}
+
+// The next shapes: what all atoms give.
+fn next_shapes(q: QueryWords, shapes: &[u64; 32]) -> [u64; 32]
+    requires { ⌜ Small q ⌝ }
+    ensures { λ r. ⌜ Listed (next (queryOf q) (listed (now (shapes .entry)))) r ⌝ }
+{
+    let atoms = q.atoms;
+    let n = q.size;
+    let mut all = [0u64; 32];
+    let mut i: usize = 0;
+    while i < n {
+        give_atom(&mut all, shapes, atoms[i]);
+        i += 1;
+    }
+    all
+}
+
+// The sum of the answer terms' numbers.
+fn answers_sum(q: QueryWords, shapes: &[u64; 32]) -> u64
+    requires { ⌜ Small q ⌝ }
+    ensures { λ r. ⌜ (r ≡ along (mixAnswer (shapeBy (listed (now (shapes .entry))))) 0 (queryOf q .answers)) × (r ≤ 4 * top) ⌝ }
+{
+    let answers = q.answers;
+    let n = q.terms;
+    let mut sum: u64 = 0;
+    let mut i: usize = 0;
+    while i < n {
+        sum += mixed(4 * (i as u64) + 1, shape_of(shapes, answers[i]), 0);
+        i += 1;
+    }
+    sum
+}
+
+// The sum of the atoms' numbers.
+fn atoms_sum(q: QueryWords, shapes: &[u64; 32]) -> u64
+    requires { ⌜ Small q ⌝ }
+    ensures { λ r. ⌜ (r ≡ total (mixAtom (shapeBy (listed (now (shapes .entry))))) (queryOf q .atoms)) × (r ≤ 8 * top) ⌝ }
+{
+    let atoms = q.atoms;
+    let n = q.size;
+    let mut sum: u64 = 0;
+    let mut i: usize = 0;
+    while i < n {
+        sum += mixed_atom(shapes, atoms[i]);
+        i += 1;
+    }
+    sum
+}
+
+// The key of the query.
+pub fn key_of(q: QueryWords) -> u64
+    requires { ⌜ Small q ⌝ }
+    ensures { λ r. ⌜ r ≡ key (queryOf q) ⌝ }
+{
+    let first = first_shapes(q);
+    let second = next_shapes(q, &first);
+    let third = next_shapes(q, &second);
+    answers_sum(q, &third) + atoms_sum(q, &third)
+}
