@@ -1,0 +1,4 @@
+// Comparison of two queries up to renaming.
+pub mod partial;
+pub mod search;
+pub mod variables;
