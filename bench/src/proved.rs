@@ -1,0 +1,60 @@
+//! The proved readers, as the static library has them, each in a safe function that tests what its contract requires.
+use crate::{Read, MOST_FACTS, MOST_MEMBERS, ROW};
+
+extern "C" {
+    fn takwishan_bench_facts(
+        sheet: *const u8,
+        sheet_len: usize,
+        partners: *const u16,
+        partners_len: usize,
+        table: *mut u64,
+        table_len: usize,
+    ) -> u64;
+
+    fn takwishan_bench_union(
+        sheet: *const u8,
+        sheet_len: usize,
+        partners: *const u16,
+        partners_len: usize,
+        arity: usize,
+        table: *mut u64,
+        table_len: usize,
+    ) -> u64;
+}
+
+/// The number and the count of the word that the library gives for both.
+fn unpacked(word: u64) -> Read {
+    Read {
+        number: (word / 65536) as u32,
+        count: (word % 65536) as usize,
+    }
+}
+
+pub fn read_facts(sheet: &[u8], partners: &[u16], table: &mut [u64]) -> Read {
+    assert!(MOST_FACTS <= table.len());
+    unpacked(unsafe {
+        takwishan_bench_facts(
+            sheet.as_ptr(),
+            sheet.len(),
+            partners.as_ptr(),
+            partners.len(),
+            table.as_mut_ptr(),
+            table.len(),
+        )
+    })
+}
+
+pub fn read_union(sheet: &[u8], partners: &[u16], arity: usize, table: &mut [u64]) -> Read {
+    assert!(ROW * MOST_MEMBERS <= table.len());
+    unpacked(unsafe {
+        takwishan_bench_union(
+            sheet.as_ptr(),
+            sheet.len(),
+            partners.as_ptr(),
+            partners.len(),
+            arity,
+            table.as_mut_ptr(),
+            table.len(),
+        )
+    })
+}

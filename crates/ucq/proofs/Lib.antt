@@ -1,0 +1,8 @@
+pub mod CheckLaws
+pub mod ClosureLaws
+pub mod KeyLaws
+pub mod ScanLaws
+pub mod StartLaws
+pub mod TableLaws
+pub mod UnionLaws
+pub mod WrittenLaws

@@ -1,0 +1,6 @@
+-- What the contracts cite.
+pub mod Closure
+pub mod Keys
+pub mod Numbers
+pub mod Rows
+pub mod Written
