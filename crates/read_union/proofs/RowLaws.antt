@@ -6,7 +6,7 @@ use native.Mathlib.Omega.{arith}
 use mathlib.Core.Bool.{Bool, true, false, not}
 use mathlib.Core.List.{List, _∷_, _++_, map, append-assoc}
 use lib.ListN.{length, getD, take, drop, set, take-append-drop, length-drop, drop-of-length-le}
-use lib.Seq.{paste, paste-zero, paste-suc, length-paste, drop-cons, take-append-le, drop-append-le, take-at, drop-at, take-all, length-take-le}
+use lib.Seq.{paste, paste-zero, paste-suc, length-paste, drop-cons, take-append-le, drop-append-le, take-at, drop-at, take-all, length-take-le, getD-take}
 use borrow.Author.Count.{below-more}
 use borrow.Author.Needs.{needs}
 use borrow.Author.Tests.{not-true, not-false}
@@ -20,10 +20,10 @@ use Rattle.sheets.specs.Format.{queryAt, memberCount, memberStart, memberAt}
 use Rattle.words.specs.Records.{stepOf}
 use Rattle.sheets.specs.Laws.QuestionRefusals.{questionSound-tells}
 use Rattle.sheets.specs.Laws.UnionRefusals.{start-rises}
-use Rattle.read_union.specs.Members.{memberEnd, Readable, RowOf}
+use Rattle.read_union.specs.Members.{memberEnd, Readable, RowOf, NarrowRows}
 use Rattle.sheets.specs.Partners.{queryAsRead, memberAsRead}
 use Rattle.sheets.specs.Refusals.{questionSound, refuses6, unionAsRead}
-use Rattle.words.specs.Words.{queryOf, memberOf, unionIn}
+use Rattle.words.specs.Words.{TermWords, queryOf, memberOf, unionIn}
 use Rattle.words.specs.declared.QueryWords.{QueryWords}
 use Rattle.read_union.proofs.UnionLaws.{first-begins, next-start, accepted, at-least, at-most}
 
@@ -52,6 +52,15 @@ row-words step q four eight few small rest =
       first-words (q .terms) (q .answers) (map (λ i. getD (q .answers) i 0) (numbers 0 4)) _ (drop-listed (q .answers) 0 4 four) (omega arith),
       first-words (q .size) (q .atoms) (map (λ i. getD (q .atoms) i 0) (numbers 0 8)) rest (drop-listed (q .atoms) 0 8 eight) (omega arith),
     )
+
+-- its answer words are terms
+pub answer-words : (step terms : ℕ) (answers rest : List ℕ) → TermWords answers → (k : ℕ) → k < 4
+    → getD (step ∷ terms ∷ getD answers 0 0 ∷ getD answers 1 0 ∷ getD answers 2 0 ∷ getD answers 3 0 ∷ rest) (2 + k) 0 < 33554432
+answer-words step terms answers rest t zero h = t 0
+answer-words step terms answers rest t (suc zero) h = t 1
+answer-words step terms answers rest t (suc (suc zero)) h = t 2
+answer-words step terms answers rest t (suc (suc (suc zero))) h = t 3
+answer-words step terms answers rest t (suc (suc (suc (suc k)))) h = absurd (omega arith)
 
 -- ---- a row put into a table
 
@@ -140,6 +149,16 @@ rows-read p s table j count below h k =
     mapped (λ i. memberOf (drop (16 * i) table)) (memberAsRead p) (memberAt 16 s) 0 count
     (λ i l. ap memberOf (sym (take-append-drop 16 (drop (16 * i) table))) ∙ below i (omega arith) .1 (drop 16 (drop (16 * i) table)))
 
+-- and they are narrow
+pub rows-narrow : (p s table : List ℕ) (j count : ℕ) → RowsBelow p s table j → count ≤ j → NarrowRows table count
+rows-narrow p s table j count below k i h =
+    let row : List ℕ = drop (16 * i) table in
+    let narrow = below i (omega arith) .2 in (
+      rw (getD-take 16 row 1 0 (omega arith)) at (narrow .0),
+      rw (getD-take 16 row 6 0 (omega arith)) at (narrow .1),
+      λ n l. rw (getD-take 16 row (2 + n) 0 (omega arith)) at (narrow .2 n l),
+    )
+
 -- ---- the loop that reads members
 
 module _ (s : List ℕ) (at j count : ℕ) (begins : at ≡ memberStart 16 s j) where
@@ -204,6 +223,7 @@ pub ruleset laws = (
   needs,
   first-begins,
   row-words,
+  answer-words,
   none-put,
   put-length,
   put-room,
@@ -212,6 +232,7 @@ pub ruleset laws = (
   no-rows,
   rows-more,
   rows-read,
+  rows-narrow,
   end-begins,
   question-there,
   end-within,

@@ -11,8 +11,8 @@ ghost use Rattle.sheets.specs.Format.{questionLength, memberStart, memberCount,
 ghost use Rattle.words.specs.Records.{stepOf};
 ghost use Rattle.sheets.specs.Refusals.{memberSoundAt, memberSound, refuses6, unionAsRead, memberPart};
 ghost use Rattle.sheets.specs.Partners.{memberAsRead};
-ghost use Rattle.words.specs.Words.{queryOf, unionIn};
-ghost use Rattle.read_union.specs.Members.{memberEnd, endIfSound, Readable, RowOf};
+ghost use Rattle.words.specs.Words.{TermWords, queryOf, unionIn};
+ghost use Rattle.read_union.specs.Members.{memberEnd, endIfSound, Readable, RowOf, NarrowRows};
 use read_question::missing_answer;
 use read_question::question_length;
 use read_question::question_sound;
@@ -107,7 +107,7 @@ pub fn union_sound(s: &[u8], partners: &[u16], arity: usize) -> bool
 
 // The row of a member, from its step and its question.
 fn member_words(step: u64, q: QueryWords) -> [u64; 16]
-    requires { ⌜ (q .terms ≤ 4) × (q .size ≤ 8) ⌝ }
+    requires { ⌜ (q .terms ≤ 4) × (q .size ≤ 8) × TermWords (q .answers) ⌝ }
     ensures { λ r. ⌜ RowOf (record { step = stepOf step; query = queryOf q }) r ⌝ }
 {
     let a = q.answers;
@@ -149,7 +149,7 @@ fn put_row(table: &mut [u64], at: usize, row: [u64; 16])
 // Reads the first `count` members of the sheet into the table's first rows.
 fn fill_union(s: &[u8], partners: &[u16], table: &mut [u64], count: usize)
     requires { ⌜ (length (now s) ≤ 33282) × (count ≤ 512) × (8192 ≤ length (now table)) × Readable (now s) count ⌝ }
-    ensures { λ r. ⌜ (length (now (table .exit)) ≡ length (now (table .entry))) × (unionIn (now (table .exit)) count ≡ map (memberAsRead (now (partners .entry))) (map (memberAt 16 (now (s .entry))) (numbers 0 count))) ⌝ }
+    ensures { λ r. ⌜ (length (now (table .exit)) ≡ length (now (table .entry))) × (unionIn (now (table .exit)) count ≡ map (memberAsRead (now (partners .entry))) (map (memberAt 16 (now (s .entry))) (numbers 0 count))) × NarrowRows (now (table .exit)) count ⌝ }
 {
     let mut at: usize = 2;
     let mut row: usize = 0;
@@ -173,7 +173,7 @@ pub fn read_union(s: &[u8], partners: &[u16], arity: usize, table: &mut [u64]) -
     requires { ⌜ 8192 ≤ length (now table) ⌝ }
     ensures number { λ r. ⌜ r .number ≡ pick (refuses6 (now (partners .entry)) 16 arity (now (s .entry))) 6 0 ⌝ }
     ensures kept { λ _. ⌜ length (now (table .exit)) ≡ length (now (table .entry)) ⌝ }
-    ensures union { λ r. ⌜ (r .number ≡ 0 → (r .count ≡ memberCount (now (s .entry))) × (1 ≤ r .count) × (r .count ≤ 512) × (unionIn (now (table .exit)) (r .count) ≡ unionAsRead (now (partners .entry)) 16 (now (s .entry)))) ⌝ }
+    ensures union { λ r. ⌜ (r .number ≡ 0 → (r .count ≡ memberCount (now (s .entry))) × (1 ≤ r .count) × (r .count ≤ 512) × (unionIn (now (table .exit)) (r .count) ≡ unionAsRead (now (partners .entry)) 16 (now (s .entry))) × NarrowRows (now (table .exit)) (r .count)) ⌝ }
     ensures refused { λ r. ⌜ ((r .number ≡ 0 → ⊥) → r .count ≡ 0) ⌝ }
 {
     if union_sound(s, partners, arity) {

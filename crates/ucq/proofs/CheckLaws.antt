@@ -1,4 +1,3 @@
--- x
 -- The first refusal that applies decides.
 use mathlib.Core.Path.{_≡_, sym, _∙_}
 use Prim.Native.Nat.{ℕ}

@@ -15,4 +15,4 @@ abbrev μ-loop : tie.MeasureT-loop
 μ-loop s partners table₀ count at₀ row₀ table at row = count - row
 
 pub fill-union-spec : {M : Type 1} → statement M
-fill-union-spec = tie.close (tie.spec Inv-loop μ-loop (λ c. (search laws, search laws, search laws, search laws)) (λ c κs. search laws) (λ c. search laws) (λ c κs. search laws) (λ c. search laws) (λ c κs. search laws) (λ c κs. search laws) (λ c κs. search laws) (λ c. search laws) (λ c. search laws) (λ c. (search laws, search laws, search laws, search laws)) (λ c. search laws) (λ c. (search laws, search laws)))
+fill-union-spec = tie.close (tie.spec Inv-loop μ-loop (λ c. (search laws, search laws, search laws, search laws)) (λ c κs. search laws) (λ c. search laws) (λ c κs. search laws) (λ c. search laws) (λ c κs. search laws) (λ c κs. search laws) (λ c κs. search laws) (λ c. search laws) (λ c. search laws) (λ c. (search laws, search laws, search laws, search laws)) (λ c. search laws) (λ c. (search laws, search laws, search laws)))

@@ -1,0 +1,157 @@
+-- What the readers leave in words is what the check of a union asks for; and the numbers that they give, one after the other, come to the
+-- first refusal of the list.
+use mathlib.Core.Path.{_≡_, refl, sym, ap, _∙_, subst}
+use mathlib.Core.Logic.{_↔_}
+use Prim.Native.Nat.{ℕ, _*_, _/_, _≤_, _<_}
+use native.Mathlib.Omega.{arith}
+use mathlib.Core.Bool.{Bool, true, false}
+use mathlib.Core.Option.{Option, none, some}
+use mathlib.Core.List.{List, _∷_, Memᴰ·of-map}
+use lib.Dec.{T}
+use lib.ListN.{length, drop}
+use borrow.Author.Needs.{needs}
+use Rattle.theory.specs.Lists.{_∈_, Unrepeated, pick, all}
+use Rattle.theory.specs.Refusals.{firstRefusal}
+use Rattle.theory.specs.Syntax.{var, Rule, Query, Member, terms}
+use Rattle.theory.specs.Union.{check}
+use Rattle.theory.specs.Laws.Options.{is-false, none≢some}
+use Rattle.theory.specs.Laws.Lists.{mem-along}
+use Rattle.words.specs.Words.{rulesIn, queryOf, Small, memberOf, unionIn}
+use Rattle.words.specs.declared.QueryWords.{QueryWords}
+use Rattle.sheets.specs.Format.{memberCount, memberAt, unionOf, termCount}
+use Rattle.sheets.specs.Partners.{partners01, memberAsRead}
+use Rattle.sheets.specs.Refusals.{refuses3, refuses6, rulesAsRead, questionAsRead, unionAsRead, ruleRefusals, questionRefusals, numberOf}
+use Rattle.sheets.specs.Laws.Tests.{record-at}
+use Rattle.sheets.specs.Laws.QuestionRefusals.{not3-iff, refuses5-twice, not5-unrepeated, variables-in-range}
+use Rattle.sheets.specs.Laws.UnionRefusals.{not6-iff, questionStart, memberQuestion}
+use Rattle.sheets.specs.Laws.OneList.{first-positive}
+use Rattle.read_question.specs.QuestionWords.{ReadFrom}
+use Rattle.read_union.specs.Members.{NarrowRows}
+use Rattle.ucq.specs.Numbers.{numberOf as numberIn}
+use Rattle.ucq.specs.Rows.{Rows, Row}
+use Rattle.answering.specs.Laws.Checking.{rules-stop, question-stops, question-passes}
+use Rattle.answering.specs.Demands.{sheetsOf, checkNumber, SoundAndAccepted, zero-means}
+
+-- ---- the members of a union that doesn't meet 6
+
+-- variables 0 to 31, and no atom twice
+abbrev SmallMember : Member → Type 0
+SmallMember m = ((v : ℕ) → var v ∈ terms (m .query) → v < 32) × Unrepeated (m .query .atoms)
+
+small-member : (p s : List ℕ) (arity : ℕ) → ¬ T (refuses6 p 16 arity s) → (m : Member) → m ∈ unionAsRead p 16 s → SmallMember m
+unfolding unionAsRead unionOf memberAsRead memberAt
+small-member p s arity not6 m k =
+    let (m′, k′, e) = Memᴰ·of-map (memberAsRead p) (unionOf 16 s) k in
+    let (j, l, e′) = record-at (memberAt 16 s) (memberCount s) m′ .0 k′ in
+    let ok = not6-iff p 16 arity s .0 not6 .3 j l in
+    let q = memberQuestion p 16 s j in
+    subst (λ (n : Member). SmallMember n) (ap (memberAsRead p) e′ ∙ e) (
+      variables-in-range 16 s (questionStart 16 s j) (ok .0) p,
+      not5-unrepeated q (λ t. ok .2 (refuses5-twice q .0 t)),
+    )
+
+-- ---- refusals 6 to 11
+
+same-number : (o : Option ℕ) → numberIn o ≡ numberOf o
+unfolding numberIn numberOf
+same-number none = refl
+same-number (some n) = refl
+
+no-six : (b : Bool) → _≡_ {A = ℕ} 0 (pick b 6 0) → ¬ T b
+no-six true e t = omega arith
+no-six false e t = t
+
+six-decides : (b : Bool) (x number : ℕ) → number ≡ pick b 6 0 → (number ≡ 0 → ⊥) → number ≡ pick b 6 x
+six-decides true x number e h = e
+six-decides false x number e h = absurd (h e)
+
+module _ (p s : List ℕ) (arity number : ℕ) (e : number ≡ pick (refuses6 p 16 arity s) 6 0) where
+  pub union-refused : (x : ℕ) → (number ≡ 0 → ⊥) → number ≡ pick (refuses6 p 16 arity s) 6 x
+  union-refused x h = six-decides (refuses6 p 16 arity s) x number e h
+
+  module _ (zero : number ≡ 0) (table : List ℕ) (size : length table ≡ 8192) (n : ℕ)
+      (read : number ≡ 0 → (n ≡ memberCount s) × (1 ≤ n) × (n ≤ 512) × (unionIn table n ≡ unionAsRead p 16 s) × NarrowRows table n)
+    where
+      pub few-members : n ≤ 512
+      few-members = read zero .2
+
+      not6 : ¬ T (refuses6 p 16 arity s)
+      not6 = no-six (refuses6 p 16 arity s) (sym zero ∙ e)
+
+      row : (j : ℕ) → j < n → Row (drop (16 * j) table)
+      unfolding unionIn
+      row j l =
+          let narrow = read zero .4 j l in
+          let m : Member = memberOf (drop (16 * j) table) in
+          let small = small-member p s arity not6 m (mem-along (read zero .3) (record-at (λ i. memberOf (drop (16 * i) table)) n m .1 (j, l, refl))) in
+          record { few-terms = narrow .0; few-atoms = narrow .1; answer-words = narrow .2; variables = small .0; distinct = small .1 }
+
+      pub rows-filled : Rows table n
+      rows-filled = record { long = (let l = read zero .2 in omega arith); each = row }
+
+      pub union-checked : (rules : List Rule) (q : Query) (r : ℕ) → r ≡ numberIn (check rules q (unionIn table n))
+          → r ≡ pick (refuses6 p 16 arity s) 6 (numberOf (check rules q (unionAsRead p 16 s)))
+      union-checked rules q r f =
+          rw (is-false (refuses6 p 16 arity s) not6) (f ∙ same-number (check rules q (unionIn table n)) ∙ ap (λ u. numberOf (check rules q u)) (read zero .3))
+
+-- ---- rules and question, as they were read
+
+pub rules-within : (p s table : List ℕ) (number count : ℕ) → p ≡ partners01 → number ≡ numberOf (firstRefusal (ruleRefusals s))
+    → (number ≡ 0 → (count ≡ length s / 4) × (count ≤ 512) × (rulesIn table count ≡ rulesAsRead p 16 s)) → number ≡ 0 → length table ≡ 512
+    → count ≤ length table
+rules-within p s table number count table01 e read zero h = let l = read zero .1 in omega arith
+
+-- where no test passes, the first does not
+first-fails : (n : ℕ) (b : Bool) (later : List (ℕ × Bool)) → firstRefusal ((n, b) ∷ later) ≡ none → ¬ T b
+unfolding firstRefusal
+first-fails n true later e t = none≢some (sym e)
+first-fails n false later e t = t
+
+pub question-small : (p s : List ℕ) (q : QueryWords) (number : ℕ)
+    → number ≡ numberOf (firstRefusal (questionRefusals p 16 s)) → (number ≡ 0 → ReadFrom p s 0 q) → number ≡ 0
+    → Small q
+unfolding questionRefusals all
+question-small p s q number e read zero =
+    let (same, terms-is, size-is, few-terms, some-atoms, few-atoms, answer-words) = read zero in
+    let passed = first-positive (questionRefusals p 16 s) tt .0 (sym e ∙ zero) in
+    let sound = not3-iff 16 s .0 (first-fails 3 (refuses3 16 s) _ passed) .0 in
+    record {
+      few-terms = few-terms;
+      few-atoms = few-atoms;
+      answer-words = answer-words;
+      variables = λ v m. variables-in-range 16 s 0 sound p v (subst (λ r. var v ∈ terms r) same m);
+    }
+
+-- ---- a check
+
+module _ (rules question union : List ℕ) (first : ℕ) (e : first ≡ numberOf (firstRefusal (ruleRefusals rules))) where
+  pub rules-refused : (first ≡ 0 → ⊥) → first ≡ checkNumber rules question union
+  rules-refused h = e ∙ sym (rules-stop partners01 16 (sheetsOf rules question union) (λ z. h (e ∙ z)))
+
+  module _ (zero : first ≡ 0) (p : List ℕ) (table01 : p ≡ partners01) (second : ℕ) (f : second ≡ numberOf (firstRefusal (questionRefusals p 16 question))) where
+    second-is : second ≡ numberOf (firstRefusal (questionRefusals partners01 16 question))
+    second-is = f ∙ ap (λ t. numberOf (firstRefusal (questionRefusals t 16 question))) table01
+
+    pub question-refused : (second ≡ 0 → ⊥) → second ≡ checkNumber rules question union
+    question-refused h = second-is ∙ sym (question-stops partners01 16 (sheetsOf rules question union) (sym e ∙ zero) (λ z. h (second-is ∙ z)))
+
+    pub all-checked : second ≡ 0 → (table : List ℕ) (count : ℕ) (q : QueryWords) (r : ℕ)
+        → (first ≡ 0 → (count ≡ length rules / 4) × (count ≤ 512) × (rulesIn table count ≡ rulesAsRead p 16 rules))
+        → (second ≡ 0 → ReadFrom p question 0 q)
+        → r ≡ pick (refuses6 p 16 (q .terms) union) 6 (numberOf (check (rulesIn table count) (queryOf q) (unionAsRead p 16 union)))
+        → r ≡ checkNumber rules question union
+    unfolding questionAsRead
+    all-checked zero′ table count q r rulesRead questionRead g =
+        let a : rulesIn table count ≡ rulesAsRead partners01 16 rules = rulesRead zero .2 ∙ ap (λ t. rulesAsRead t 16 rules) table01 in
+        let b : queryOf q ≡ questionAsRead partners01 16 question = questionRead zero′ .0 ∙ ap (λ t. questionAsRead t 16 question) table01 in
+        let d : q .terms ≡ termCount question 0 = questionRead zero′ .1 in
+        g ∙ rw (a, b, d, table01) (sym (question-passes partners01 16 (sheetsOf rules question union) (sym e ∙ zero) (sym second-is ∙ zero′)))
+
+-- the number that a check gives is 0 exactly when the union is accepted
+pub with-meaning : (rules question union : List ℕ) (r : ℕ) → r ≡ checkNumber rules question union
+    → (r ≡ checkNumber rules question union) × ((r ≡ 0) ↔ SoundAndAccepted rules question union)
+with-meaning rules question union r e =
+    let means = zero-means rules question union in
+    (e, (λ z. means .0 (sym e ∙ z), λ ok. e ∙ means .1 ok))
+
+pub ruleset laws = (needs, union-refused, few-members, rows-filled, union-checked, rules-within, question-small, rules-refused, question-refused, all-checked)

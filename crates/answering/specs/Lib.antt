@@ -1,0 +1,3 @@
+-- The promises, and what they rest on.
+pub mod Demands
+pub mod Laws
