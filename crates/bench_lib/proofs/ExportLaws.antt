@@ -12,6 +12,7 @@ use Rattle.theory.specs.Lists.{pick}
 use Rattle.sheets.specs.Format.{memberCount}
 use Rattle.sheets.specs.Refusals.{factsAsRead, refuses6, unionAsRead}
 use Rattle.words.specs.Words.{factsIn, unionIn}
+use Rattle.read_union.specs.Members.{NarrowRows}
 
 pub number-packed : (number count m : ℕ) → count ≤ 10000 → number ≡ m → (number * 65536 + count) / 65536 ≡ m
 number-packed number count m small e = omega arith
@@ -44,7 +45,7 @@ few-members (suc n) count read refused = let none : count ≡ 0 = refused (λ e.
 module _ (ps s table first : List ℕ) (arity number count : ℕ)
     (kept : length table ≡ length first)
     (is : number ≡ pick (refuses6 ps 16 arity s) 6 0)
-    (read : number ≡ 0 → (count ≡ memberCount s) × (1 ≤ count) × (count ≤ 512) × (unionIn table count ≡ unionAsRead ps 16 s))
+    (read : number ≡ 0 → (count ≡ memberCount s) × (1 ≤ count) × (count ≤ 512) × (unionIn table count ≡ unionAsRead ps 16 s) × NarrowRows table count)
     (refused : (number ≡ 0 → ⊥) → count ≡ 0)
   where
     few : count ≤ 10000
