@@ -3,4 +3,4 @@ pub mod ScanLaws
 pub mod VariableLaws
 pub mod PartialLaws
 pub mod SearchLaws
-pub mod CountLaws
+pub mod ProfileLaws

@@ -1,26 +1,27 @@
 -- The test of a partial renaming: what the loops over the words of two queries compute is what the definition says.
-use mathlib.Core.Path.{_≡_, refl, sym, ap, _∙_}
+use mathlib.Core.Path.{_≡_, refl, sym, ap, _∙_, subst}
 use Prim.Native.Nat.{ℕ, suc, _+_, _/_, _%_, _≤_, _<_}
 use native.Mathlib.Decide.{decLt}
 use native.Mathlib.Omega.{arith}
 use mathlib.Core.Bool.{Bool, true, false, not, _&&_, _||_, and-true, and-false, and-assoc}
 use mathlib.Core.List.{List, [], _∷_, map}
-use lib.Dec.{eqb}
+use lib.Dec.{T, eqb}
 use lib.ListN.{length, getD, take, length-map}
 use lib.Seq.{length-take-le}
 use borrow.Author.Needs.{needs}
 use borrow.Author.Tests.{eq-eqb, ne-eqb, eqb-true, eqb-false}
 use Rattle.theory.specs.Lists.{pick, any, all, pairwise}
 use Rattle.theory.specs.Syntax.{Term, var, const, Atom, concept, role, Query, onAtoms}
-use Rattle.theory.specs.Laws.Options.{T-eqb, same-test}
+use Rattle.theory.specs.Laws.Options.{T-and, T-eqb, is-true, same-test}
 use Rattle.sets.specs.Sets.{holds}
 use Rattle.words.specs.Records.{field, termOf, atomOf}
 use Rattle.words.specs.Words.{queryOf, Small}
 use Rattle.words.specs.declared.QueryWords.{QueryWords}
 use Rattle.renaming.specs.LowVariables.{LowTerm, LowAtom, answer-low, atom-low}
 use Rattle.renaming.specs.Partial.{entry, mayBe, promising}
+use Rattle.renaming.specs.UsedVariables.{samePredicate}
 use Rattle.renaming.specs.declared.partial.Partial.{Partial}
-use Rattle.renaming.proofs.ScanLaws.{variable-word, concept-word, role-word, from, from-cons, from-nil, word-below}
+use Rattle.renaming.proofs.ScanLaws.{variable-word, firstOf, secondOf, from, from-cons, from-nil, word-below}
 use Rattle.renaming.proofs.VariableLaws.{first-low, second-low}
 
 -- ---- terms
@@ -73,20 +74,7 @@ module _ (m : Partial) (s t : ℕ) where
 
 -- ---- atoms
 
--- the terms of two atoms of kind k
-abbrev onTerms : Partial → ℕ → ℕ → ℕ → Bool
-onTerms m k a b = mayBe m (termOf 24 (field 25 25 a)) (termOf 24 (field 25 25 b)) && pick (eqb k 0) true (mayBe m (termOf 24 (field 0 25 a)) (termOf 24 (field 0 25 b)))
-
-module _ (m : Partial) (k a b f g : ℕ) (r : Bool) (fa : f ≡ field 25 25 a) (gb : g ≡ field 25 25 b) (h : r ≡ mayBe m (termOf 24 f) (termOf 24 g)) where
-  pub one-place : r ≡ true → k ≡ 0 → true ≡ onTerms m k a b
-  one-place e z = simp (sym fa, sym gb, sym h, e, eq-eqb k 0 z)
-
-  pub two-places : (s t : ℕ) (c : Bool) → r ≡ true → (k ≡ 0 → ⊥) → s ≡ field 0 25 a → t ≡ field 0 25 b → c ≡ mayBe m (termOf 24 s) (termOf 24 t) → c ≡ onTerms m k a b
-  two-places s t c e z sa tb i = simp (sym fa, sym gb, sym h, e, ne-eqb k 0 z, sym sa, sym tb) i
-
-  pub first-against : r ≡ false → false ≡ onTerms m k a b
-  first-against e = simp (sym fa, sym gb, sym h, e)
-
+-- a test on two atoms with kinds k and l
 on-atoms : (test : Term → Term → Bool) (k l n j : ℕ) (s t u v : Term) → k < 2 → l < 2
     → onAtoms test (pick (eqb k 0) (concept n s) (role n s u)) (pick (eqb l 0) (concept j t) (role j t v)) ≡ (eqb k l && eqb n j && (test s t && pick (eqb k 0) true (test u v)))
 unfolding onAtoms
@@ -99,25 +87,55 @@ on-atoms test k l n j s t u v hk hl = go (eqb k 0) (eqb l 0) refl refl
     go false true e f = simp (ne-eqb k l (λ z. eqb-false k 0 e (z ∙ eqb-true l 0 f)))
     go false false e f = simp (eq-eqb k l (omega (arith, eqb-false k 0 e, eqb-false l 0 f)), and-assoc)
 
-on-words : (m : Partial) (a b : ℕ) → onAtoms (mayBe m) (atomOf 24 a) (atomOf 24 b) ≡ (eqb (field 63 1 a) (field 63 1 b) && eqb (field 50 12 a) (field 50 12 b) && onTerms m (field 63 1 a) a b)
+on-words : (test : Term → Term → Bool) (a b : ℕ) → onAtoms test (atomOf 24 a) (atomOf 24 b)
+    ≡ (eqb (field 63 1 a) (field 63 1 b) && eqb (field 50 12 a) (field 50 12 b) && (test (firstOf a) (firstOf b) && pick (eqb (field 63 1 a) 0) true (test (secondOf a) (secondOf b))))
 unfolding atomOf
-on-words m a b =
-    on-atoms (mayBe m) (field 63 1 a) (field 63 1 b) (field 50 12 a) (field 50 12 b)
-    (termOf 24 (field 25 25 a)) (termOf 24 (field 25 25 b)) (termOf 24 (field 0 25 a)) (termOf 24 (field 0 25 b)) (omega arith) (omega arith)
+on-words test a b =
+    on-atoms test (field 63 1 a) (field 63 1 b) (field 50 12 a) (field 50 12 b) (firstOf a) (firstOf b) (secondOf a) (secondOf b) (omega arith) (omega arith)
 
-module _ (m : Partial) (a b k l : ℕ) (ka : k ≡ field 63 1 a) (lb : l ≡ field 63 1 b) where
-  pub kind-differs : (k ≡ l → ⊥) → false ≡ onAtoms (mayBe m) (atomOf 24 a) (atomOf 24 b)
-  kind-differs e = sym (on-words m a b ∙ simp (ne-eqb (field 63 1 a) (field 63 1 b) (λ z. e (cc))))
+-- two predicates are one where kind and number are
+predicate-words : (a b : ℕ) → samePredicate (atomOf 24 a) (atomOf 24 b) ≡ (eqb (field 63 1 a) (field 63 1 b) && eqb (field 50 12 a) (field 50 12 b))
+unfolding samePredicate
+predicate-words a b = on-words (λ s t. true) a b ∙ simp (pick-same, and-true)
+  where
+    pick-same : (c : Bool) → pick c true true ≡ true
+    pick-same true = refl
+    pick-same false = refl
 
-  pub number-differs : (n j : ℕ) → k ≡ l → n ≡ field 50 12 a → j ≡ field 50 12 b → (n ≡ j → ⊥) → false ≡ onAtoms (mayBe m) (atomOf 24 a) (atomOf 24 b)
-  number-differs n j e na jb d = sym (on-words m a b ∙ simp (eq-eqb (field 63 1 a) (field 63 1 b) (cc), ne-eqb (field 50 12 a) (field 50 12 b) (λ z. d (cc))))
+module _ (a b k l : ℕ) (ka : k ≡ field 63 1 a) (lb : l ≡ field 63 1 b) where
+  pub kinds-differ : (k ≡ l → ⊥) → false ≡ samePredicate (atomOf 24 a) (atomOf 24 b)
+  kinds-differ d = sym (predicate-words a b ∙ simp (ne-eqb (field 63 1 a) (field 63 1 b) (λ z. d (cc))))
 
-  pub terms-decide : (n j : ℕ) (r : Bool) → k ≡ l → n ≡ field 50 12 a → j ≡ field 50 12 b → n ≡ j → r ≡ onTerms m k a b → r ≡ onAtoms (mayBe m) (atomOf 24 a) (atomOf 24 b)
-  terms-decide n j r e na jb d h =
-      h ∙ sym (on-words m a b ∙ simp (sym ka, eq-eqb k (field 63 1 b) (e ∙ lb), eq-eqb (field 50 12 a) (field 50 12 b) (cc)))
+  pub numbers-decide : (n j : ℕ) → k ≡ l → n ≡ field 50 12 a → j ≡ field 50 12 b → eqb n j ≡ samePredicate (atomOf 24 a) (atomOf 24 b)
+  numbers-decide n j e na jb = sym (predicate-words a b ∙ simp (eq-eqb (field 63 1 a) (field 63 1 b) (cc), sym na, sym jb))
 
-pub same-kind : (b k l : ℕ) → k ≡ l → l ≡ field 63 1 b → k ≡ field 63 1 b
-same-kind b k l e lb = e ∙ lb
+module _ (a b : ℕ) (same : samePredicate (atomOf 24 a) (atomOf 24 b) ≡ true) where
+  tests : T (eqb (field 63 1 a) (field 63 1 b)) × T (eqb (field 50 12 a) (field 50 12 b))
+  tests = T-and (eqb (field 63 1 a) (field 63 1 b)) (eqb (field 50 12 a) (field 50 12 b)) .0 (subst T (sym same ∙ predicate-words a b) tt)
+
+  pub second-low-too : (k g : ℕ) → k ≡ field 63 1 a → LowAtom b → (k ≡ 0 → ⊥) → g ≡ field 0 25 b → LowTerm g
+  second-low-too k g ka = second-low b k (ka ∙ T-eqb (field 63 1 a) (field 63 1 b) .0 (tests .0)) g
+
+  terms-decide : (m : Partial) → onAtoms (mayBe m) (atomOf 24 a) (atomOf 24 b) ≡ (mayBe m (firstOf a) (firstOf b) && pick (eqb (field 63 1 a) 0) true (mayBe m (secondOf a) (secondOf b)))
+  terms-decide m = on-words (mayBe m) a b ∙ simp (is-true (eqb (field 63 1 a) (field 63 1 b)) (tests .0), is-true (eqb (field 50 12 a) (field 50 12 b)) (tests .1))
+
+  module _ (m : Partial) (f g : ℕ) (r : Bool) (fa : f ≡ field 25 25 a) (gb : g ≡ field 25 25 b) (h : r ≡ mayBe m (termOf 24 f) (termOf 24 g)) where
+    pub first-against : r ≡ false → false ≡ onAtoms (mayBe m) (atomOf 24 a) (atomOf 24 b)
+    first-against e = sym (terms-decide m ∙ simp (sym fa, sym gb, sym h, e))
+
+    module _ (k : ℕ) (ka : k ≡ field 63 1 a) (e : r ≡ true) where
+      pub one-place : k ≡ 0 → true ≡ onAtoms (mayBe m) (atomOf 24 a) (atomOf 24 b)
+      one-place z = sym (terms-decide m ∙ simp (sym fa, sym gb, sym h, e, eq-eqb (field 63 1 a) 0 (cc)))
+
+      pub two-places : (s t : ℕ) (c : Bool) → (k ≡ 0 → ⊥) → s ≡ field 0 25 a → t ≡ field 0 25 b → c ≡ mayBe m (termOf 24 s) (termOf 24 t) → c ≡ onAtoms (mayBe m) (atomOf 24 a) (atomOf 24 b)
+      two-places s t c z sa tb i = i ∙ sym (terms-decide m ∙ simp (sym fa, sym gb, sym h, e, ne-eqb (field 63 1 a) 0 (λ y. z (cc)), sym sa, sym tb))
+
+module _ (m : Partial) (a b : ℕ) (c : Bool) (h : c ≡ samePredicate (atomOf 24 a) (atomOf 24 b)) where
+  pub predicate-same : c ≡ true → samePredicate (atomOf 24 a) (atomOf 24 b) ≡ true
+  predicate-same e = sym h ∙ e
+
+  pub predicates-differ : c ≡ false → false ≡ onAtoms (mayBe m) (atomOf 24 a) (atomOf 24 b)
+  predicates-differ e = sym (on-words (mayBe m) a b ∙ simp (sym (predicate-words a b), sym h, e))
 
 -- ---- the atoms of a query, from index i on
 
@@ -226,13 +244,14 @@ pub ruleset laws = (
   object-may,
   first-low,
   second-low,
+  second-low-too,
+  kinds-differ,
+  numbers-decide,
+  first-against,
   one-place,
   two-places,
-  first-against,
-  kind-differs,
-  number-differs,
-  same-kind,
-  terms-decide,
+  predicate-same,
+  predicates-differ,
   atom-low,
   some-passes,
   this-fails,
@@ -240,14 +259,9 @@ pub ruleset laws = (
   some-fails,
   this-passes,
   all-pass,
-  answer-low,
-  word-below,
-  partner-low,
-  numbers-differ,
-  answer-differs,
-  answer-goes,
-  answers-went,
   answers-against,
   atoms-against,
   nothing-against,
 )
+
+pub ruleset answer-laws = (needs, answer-low, partner-low, word-below, numbers-differ, answer-differs, answer-goes, answers-went)

@@ -1,14 +1,14 @@
 -- The search for a renaming: what promising partial renamings have to do with renamings, and what each step of the search keeps.
 use mathlib.Core.Path.{_≡_, refl, sym, ap, _∙_, subst}
 use mathlib.Core.Logic.{_⊎_, inl, inr, _↔_, _≢_}
-use Prim.Native.Nat.{ℕ, suc, _+_, _≤_, _<_, zero-le}
+use Prim.Native.Nat.{ℕ, _+_, _≤_, _<_, zero-le}
 use native.Mathlib.Nat.{le-refl}
 use native.Mathlib.Decide.{ℕ-discrete}
 use native.Mathlib.Omega.{arith}
-use mathlib.Core.Bool.{Bool, true, false, not, _&&_, _||_}
+use mathlib.Core.Bool.{Bool, true, false, not, _&&_}
 use mathlib.Core.List.{Memᴰ·cast}
 use lib.Dec.{T, eqb}
-use lib.ListN.{length, getD, set, replicate, getD-replicate}
+use lib.ListN.{getD, set, replicate, getD-replicate}
 use lib.Seq.{getD-set-same, getD-set-other}
 use borrow.Author.Needs.{needs}
 use borrow.Author.Tests.{eqb-true, eqb-false, not-true, not-false}
@@ -25,7 +25,7 @@ use Rattle.words.specs.Words.{queryOf, Small}
 use Rattle.words.specs.declared.QueryWords.{QueryWords}
 use Rattle.renaming.specs.LowVariables.{atom-low}
 use Rattle.renaming.specs.Partial.{entry, mayBe, promising, Sends}
-use Rattle.renaming.specs.Search.{Ready, Begun, Follows, Renaming, GoesOn, Allows, Judges, Decides}
+use Rattle.renaming.specs.Search.{Ready, Begun, Follows, Renaming, GoesOn, Offers, Allows, Judges, Decides}
 use Rattle.renaming.specs.declared.partial.Partial.{Partial}
 use Rattle.renaming.specs.declared.search.Compared.{Compared}
 
@@ -217,7 +217,7 @@ module _ (s : Compared) (m : Partial) (w : ℕ) (b : Bool) (e : b ≡ holds (s .
   pub no-target : b ≡ false → false ≡ (holds (s .targets) w && not (holds (m .taken) w))
   no-target f = simp (sym e, f)
 
-pub not-taken : (s : Compared) (m : Partial) (w : ℕ) (b : Bool) → b ≡ (holds (s .targets) w && not (holds (m .taken) w)) → b ≡ true → holds (m .taken) w ≡ false
+not-taken : (s : Compared) (m : Partial) (w : ℕ) (b : Bool) → b ≡ (holds (s .targets) w && not (holds (m .taken) w)) → b ≡ true → holds (m .taken) w ≡ false
 not-taken s m w b e f = is-false (holds (m .taken) w) (T-no (holds (m .taken) w) .0 (T-and (holds (s .targets) w) (not (holds (m .taken) w)) .0 (subst T (sym f ∙ e) tt) .1))
 
 module _ (s : Compared) (ready : Ready s) where
@@ -230,6 +230,19 @@ module _ (s : Compared) (ready : Ready s) where
 
   image-low : (r : Renaming s) (v : ℕ) → holds (s .sources) v ≡ true → r .to v < 32
   image-low r v e = ready .small-q .variables (r .to v) (term-into (queryOf (s .p)) (queryOf (s .q)) r (source-stands v e))
+
+  module _ (m : Partial) (v w : ℕ) (b : Bool) (e : holds (s .sources) v ≡ true) (free : b ≡ (holds (s .targets) w && not (holds (m .taken) w))) where
+    pub not-offered : entry m v ≡ 32 → b ≡ false → Offers s m v w false
+    not-offered z f = record {
+      offers = λ r g d. sym f ∙ free ∙ is-true (holds (s .targets) w && not (holds (m .taken) w)) (T-and (holds (s .targets) w) (not (holds (m .taken) w)) .1 (
+        subst (λ u. T (holds (s .targets) u)) d (image-held r v e),
+        T-no (holds (m .taken) w) .1 (λ t. let o = g .comes w t in o .2 (ap (entry m) (r .one-to-one (o .0) v (o .1) (source-stands v e) (o .3 ∙ sym d)) ∙ z)),
+      ));
+      untaken = λ h. absurd (subst T (sym h) tt);
+    }
+
+    pub offered : (c : Bool) → b ≡ true → ((r : Renaming s) → var v ∈ terms (queryOf (s .p)) → r .to v ≡ w → c ≡ true) → Offers s m v w c
+    offered c f h = record { offers = λ r g d. h r (source-stands v e) d; untaken = λ k. not-taken s m w b free f }
 
 -- ---- the targets one after the other
 
@@ -247,12 +260,8 @@ module _ (s : Compared) (m : Partial) (v w : ℕ) (k : Seeks s m v w) where
   past : ((r : Renaming s) → GoesOn s m r → r .to v ≡ w → ⊥) → Seeks s m v (w + 1)
   past f = record { ready = k .ready; source = k .source; unsent = k .unsent; beyond = λ r g. (let h = k .beyond r g in let d = f r g in omega arith) }
 
-  pub past-unfree : (b : Bool) → b ≡ (holds (s .targets) w && not (holds (m .taken) w)) → b ≡ false → Seeks s m v (w + 1)
-  past-unfree b c f = past (λ r g d. subst T (sym c ∙ f) (T-and (holds (s .targets) w) (not (holds (m .taken) w)) .1 (
-    subst (λ u. T (holds (s .targets) u)) d (image-held s (k .ready) r v (k .source)),
-    T-no (holds (m .taken) w) .1 (λ t. let o = g .comes w t in
-        o .2 (ap (entry m) (r .one-to-one (o .0) v (o .1) (source-stands s (k .ready) v (k .source)) (o .3 ∙ sym d)) ∙ k .unsent)),
-  )))
+  pub past-unoffered : (b : Bool) → Offers s m v w b → b ≡ false → Seeks s m v (w + 1)
+  past-unoffered b o f = past (λ r g d. subst T (sym (o .offers r g d) ∙ f) tt)
 
   module _ (n : Partial) (b : Bool) where
     past-refused : Allows s n b → b ≡ false → Sends m v w n → Seeks s m v (w + 1)
@@ -270,6 +279,9 @@ module _ (s : Compared) (m : Partial) (v w : ℕ) (k : Seeks s m v w) where
 
   pub past-all : 32 ≤ w → Allows s m false
   past-all h = record { allows = λ r g. (let x = k .beyond r g in let y = image-low s (k .ready) r v (k .source) in absurd (omega arith)) }
+
+pub untaken : (s : Compared) (m : Partial) (v w : ℕ) (b : Bool) → Offers s m v w b → b ≡ true → holds (m .taken) w ≡ false
+untaken s m v w b o e = o .untaken e
 
 -- ---- answers
 
@@ -345,12 +357,14 @@ pub ruleset laws = (
   atom-low,
   held-not,
   held-true,
-  not-taken,
   free-target,
   no-target,
+  not-offered,
+  offered,
+  untaken,
   begun-next,
   seeks-first,
-  past-unfree,
+  past-unoffered,
   past-unpromising,
   past-unviable,
   past-undecided,

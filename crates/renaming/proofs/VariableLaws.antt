@@ -16,7 +16,7 @@ use Rattle.theory.specs.Syntax.{Term, var, const, Atom, args, places, terms, sa
 use Rattle.theory.specs.Laws.Lists.{mem-along}
 use Rattle.sets.specs.Sets.{holds, holds-none}
 use Rattle.words.specs.Records.{field, termOf, atomOf}
-use Rattle.words.specs.Words.{queryOf, Small}
+use Rattle.words.specs.Words.{queryOf}
 use Rattle.words.specs.declared.QueryWords.{QueryWords}
 use Rattle.renaming.specs.LowVariables.{LowTerm, LowAtom, answer-low, atom-low}
 use Rattle.renaming.specs.UsedVariables.{Adds}

@@ -3,7 +3,7 @@ use mathlib.Core.Path.{_≡_, sym}
 use Prim.Native.Nat.{ℕ, _≤_, _<_}
 use native.Mathlib.Omega.{arith}
 use mathlib.Core.List.{List, List·Memᴰ·head, Memᴰ·append-right, Memᴰ·map, Memᴰ·cast}
-use lib.ListN.{length, getD, take, length-map, length-take}
+use lib.ListN.{length, getD, take}
 use lib.Seq.{split-at, getD-take, length-take-le}
 use Rattle.theory.specs.Lists.{_∈_}
 use Rattle.theory.specs.Syntax.{var, args}

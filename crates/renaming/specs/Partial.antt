@@ -10,6 +10,7 @@ use Rattle.theory.specs.Syntax.{Term, var, const, Query, onAtoms}
 use Rattle.sets.specs.Sets.{holds}
 use Rattle.renaming.specs.declared.partial.Partial.{Partial}
 
+-- where v goes; 32 is nowhere yet
 abbrev pub entry : Partial → ℕ → ℕ
 entry m v = getD (m .to) v 0
 

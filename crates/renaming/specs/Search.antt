@@ -1,7 +1,7 @@
 -- What the search for a renaming knows of its arguments, and what it has to do with renamings.
 use mathlib.Core.Path.{_≡_}
 use Prim.Native.Nat.{ℕ, _≤_, _<_}
-use mathlib.Core.Bool.{Bool, true}
+use mathlib.Core.Bool.{Bool, true, false}
 use lib.Dec.{T}
 use Rattle.theory.specs.Lists.{_∈_, any}
 use Rattle.theory.specs.Syntax.{var, Query, terms, sameTerm}
@@ -37,6 +37,11 @@ Renaming s = Alike (queryOf (s .p)) (queryOf (s .q))
 
 abbrev pub GoesOn : (s : Compared) → Partial → Renaming s → Type 0
 GoesOn s m r = Follows (queryOf (s .p)) (queryOf (s .q)) m r
+
+-- where a renaming that goes on from m sends v to w the answer is yes, and where it is yes w is not taken
+pub record Offers (s : Compared) (m : Partial) (v w : ℕ) (b : Bool) : Type 0 where
+  pub offers : (r : Renaming s) → GoesOn s m r → r .to v ≡ w → b ≡ true
+  pub untaken : b ≡ true → holds (m .taken) w ≡ false
 
 -- where a renaming goes on from m, the answer is yes
 pub record Allows (s : Compared) (m : Partial) (b : Bool) : Type 0 where

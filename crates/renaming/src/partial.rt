@@ -7,16 +7,16 @@ use words::kind_of;
 use words::number_of;
 use words::second_term;
 ghost use mathlib.Core.Path.{_≡_};
-ghost use mathlib.Core.Bool.{true, _&&_};
-ghost use Prim.Native.Nat.{ℕ, _<_};
-ghost use lib.Dec.{eqb};
+ghost use mathlib.Core.Bool.{true};
+ghost use Prim.Native.Nat.{_<_};
 ghost use lib.ListN.{replicate};
-ghost use Rattle.theory.specs.Lists.{pick, any, all, pairwise};
+ghost use Rattle.theory.specs.Lists.{any, all, pairwise};
 ghost use Rattle.theory.specs.Syntax.{var, onAtoms};
-ghost use Rattle.words.specs.Records.{field, termOf, atomOf};
+ghost use Rattle.words.specs.Records.{termOf, atomOf};
 ghost use Rattle.words.specs.Words.{queryOf, Small};
 ghost use Rattle.renaming.specs.LowVariables.{LowTerm, LowAtom};
 ghost use Rattle.renaming.specs.Partial.{mayBe, promising as promisingIn, Sends};
+ghost use Rattle.renaming.specs.UsedVariables.{samePredicate};
 
 // Where each variable goes, 32 where it is not assigned, and the set of the targets taken.
 pub struct Partial {
@@ -69,13 +69,24 @@ fn may_be(m: Partial, s: u64, t: u64) -> bool
     }
 }
 
-// Whether the terms of the atom a, of this kind, may still become those of b.
-fn may_terms(m: Partial, kind: u64, a: u64, b: u64) -> bool
-    requires { ⌜ LowAtom a × LowAtom b × (kind ≡ field 63 1 a) × (kind ≡ field 63 1 b) ⌝ }
-    ensures { λ r. ⌜ r ≡ (mayBe m (termOf 24 (field 25 25 a)) (termOf 24 (field 25 25 b)) && pick (eqb kind 0) true (mayBe m (termOf 24 (field 0 25 a)) (termOf 24 (field 0 25 b)))) ⌝ }
+// Whether the atoms have one predicate.
+pub fn same_predicate(a: u64, b: u64) -> bool
+    ensures { λ r. ⌜ r ≡ samePredicate (atomOf 24 a) (atomOf 24 b) ⌝ }
+{
+    if kind_of(a) == kind_of(b) {
+        number_of(a) == number_of(b)
+    } else {
+        false
+    }
+}
+
+// Whether the atom a may still become b, which has its predicate.
+fn may_terms(m: Partial, a: u64, b: u64) -> bool
+    requires { ⌜ LowAtom a × LowAtom b × (samePredicate (atomOf 24 a) (atomOf 24 b) ≡ true) ⌝ }
+    ensures { λ r. ⌜ r ≡ onAtoms (mayBe m) (atomOf 24 a) (atomOf 24 b) ⌝ }
 {
     if may_be(m, first_term(a), first_term(b)) {
-        if kind == 0 {
+        if kind_of(a) == 0 {
             true
         } else {
             may_be(m, second_term(a), second_term(b))
@@ -90,13 +101,11 @@ fn may_atom(m: Partial, a: u64, b: u64) -> bool
     requires { ⌜ LowAtom a × LowAtom b ⌝ }
     ensures { λ r. ⌜ r ≡ onAtoms (mayBe m) (atomOf 24 a) (atomOf 24 b) ⌝ }
 {
-    let kind = kind_of(a);
-    if kind == kind_of(b) {
-        if number_of(a) == number_of(b) {
-            return may_terms(m, kind, a, b);
-        }
+    if same_predicate(a, b) {
+        may_terms(m, a, b)
+    } else {
+        false
     }
-    false
 }
 
 // Whether the atom a may still become some atom of q.

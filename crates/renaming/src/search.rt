@@ -3,11 +3,12 @@ use crate::partial::Partial;
 use crate::partial::assign;
 use crate::partial::nothing;
 use crate::partial::promising;
+use crate::profile::beside;
+use crate::profile::beside_alike;
+use crate::profile::spread_alike;
 use crate::variables::used;
-use crate::variables::with_atom;
 use sets::has;
 use words::QueryWords;
-use words::stands;
 ghost use mathlib.Core.Path.{_≡_};
 ghost use mathlib.Core.Bool.{true, not, _&&_};
 ghost use Prim.Native.Nat.{_+_, _≤_, _<_};
@@ -15,7 +16,7 @@ ghost use Rattle.theory.specs.Renaming.{alike as alikeIn};
 ghost use Rattle.sets.specs.Sets.{holds};
 ghost use Rattle.words.specs.Words.{queryOf, Small};
 ghost use Rattle.renaming.specs.Partial.{entry, promising as promisingIn};
-ghost use Rattle.renaming.specs.Search.{Ready, Begun, Renaming, Allows, Judges, Decides};
+ghost use Rattle.renaming.specs.Search.{Ready, Begun, Offers, Allows, Judges, Decides};
 
 // Two queries with the sets of their variables.
 pub struct Compared {
@@ -40,14 +41,6 @@ fn prepared(p: QueryWords, q: QueryWords) -> Compared
     }
 }
 
-// Whether the queries have equally many variables.
-fn as_many(s: Compared) -> bool
-    requires { ⌜ Ready s ⌝ }
-    ensures { λ r. ⌜ (Renaming s → r ≡ true) ⌝ }
-{
-    u32::count_ones(s.sources) == u32::count_ones(s.targets)
-}
-
 // Whether w is a variable of the second query that is not taken.
 fn free(s: Compared, m: Partial, w: u32) -> bool
     requires { ⌜ w < 32 ⌝ }
@@ -60,6 +53,20 @@ fn free(s: Compared, m: Partial, w: u32) -> bool
     }
 }
 
+// Whether v, not assigned yet, may go to w as far as w alone tells: w is free, and as many variables stand beside it.
+fn offers(s: Compared, v: u32, w: u32, m: Partial) -> bool
+    requires { ⌜ Ready s × (v < 32) × (w < 32) × (holds (s .sources) v ≡ true) × (entry m v ≡ 32) ⌝ }
+    ensures { λ r. ⌜ Offers s m v w r ⌝ }
+{
+    let p = s.p;
+    let q = s.q;
+    if free(s, m, w) {
+        beside_alike(p, q, v, w)
+    } else {
+        false
+    }
+}
+
 // Whether the variable v, not assigned yet, has a target left against which nothing speaks.
 fn has_target(s: Compared, v: u32, m: Partial) -> bool
     requires { ⌜ Ready s × (v < 32) × (holds (s .sources) v ≡ true) × (entry m v ≡ 32) ⌝ }
@@ -67,38 +74,19 @@ fn has_target(s: Compared, v: u32, m: Partial) -> bool
 {
     let p = s.p;
     let q = s.q;
-    let mut w: u32 = 0;
-    while w < 32 {
-        if free(s, m, w) {
-            if promising(assign(m, v, w), p, q) {
+    let mut x: u32 = 0;
+    while x < 32 {
+        if offers(s, v, x, m) {
+            if promising(assign(m, v, x), p, q) {
                 return true;
             } else {
-                w += 1;
+                x += 1;
             }
         } else {
-            w += 1;
+            x += 1;
         }
     }
     false
-}
-
-// The variables that stand in an atom with v.
-fn beside(p: QueryWords, v: u32) -> u32
-    requires { ⌜ Small p × (v < 32) ⌝ }
-{
-    let atoms = p.atoms;
-    let n = p.size;
-    let mut set: u32 = 0;
-    let mut i: usize = 0;
-    while i < n {
-        if stands(atoms[i], v as u64) {
-            set = with_atom(set, atoms[i]);
-            i += 1;
-        } else {
-            i += 1;
-        }
-    }
-    set
 }
 
 // Whether the variable v, if it is to be looked at, has a target left.
@@ -157,7 +145,7 @@ fn complete(s: Compared, v: u32, m: Partial) -> bool
     }
     let mut w: u32 = 0;
     while w < 32 {
-        if free(s, m, w) {
+        if offers(s, v, w, m) {
             let next = assign(m, v, w);
             if viable(s, v, next) {
                 if complete(s, v + 1, next) {
@@ -180,7 +168,9 @@ fn found(s: Compared, m: Partial) -> bool
     requires { ⌜ Ready s × Begun (queryOf (s .p)) 0 m × (promisingIn m (queryOf (s .p)) (queryOf (s .q)) ≡ true) ⌝ }
     ensures { λ r. ⌜ Decides s m r ⌝ }
 {
-    if as_many(s) {
+    let p = s.p;
+    let q = s.q;
+    if spread_alike(p, q) {
         if hopeful(s, 0xFFFFFFFF, 0, m) {
             return complete(s, 0, m);
         }
@@ -188,7 +178,7 @@ fn found(s: Compared, m: Partial) -> bool
     false
 }
 
-// Whether the two queries are alike.
+// Whether the two queries are alike: whether a one-to-one renaming of variables carries the one to the other.
 pub fn alike(p: QueryWords, q: QueryWords) -> bool
     requires { ⌜ Small p × Small q ⌝ }
     ensures { λ r. ⌜ r ≡ alikeIn (queryOf p) (queryOf q) ⌝ }

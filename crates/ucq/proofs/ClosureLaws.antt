@@ -23,7 +23,7 @@ use Rattle.rewriting.specs.declared.steps.QueryFound.{QueryFound}
 use Rattle.rewriting.specs.StepResults.{queryFound}
 use Rattle.rewriting.proofs.ScanLaws.{any-append}
 use Rattle.ucq.specs.Closure.{outside, leadsOutside}
-use Rattle.ucq.specs.Rows.{memberAt}
+use Rattle.rows.specs.Rows.{memberAt}
 use Rattle.ucq.proofs.ScanLaws.{someFrom, scans, skip, any-map, any-flatMap, some-begins}
 use Rattle.ucq.proofs.UnionLaws.{rows, union-from, rules-length}
 use Rattle.ucq.proofs.WrittenLaws.{is-found, is-none, rule-steps}

@@ -17,7 +17,7 @@ use Rattle.words.specs.declared.QueryWords.{QueryWords}
 use Rattle.key.specs.Key.{key}
 use Rattle.key.specs.KeyLaws.{unlike-keys}
 use Rattle.ucq.specs.Keys.{Keys}
-use Rattle.ucq.specs.Rows.{Rows, memberAt}
+use Rattle.rows.specs.Rows.{Rows, memberAt}
 use Rattle.ucq.proofs.ScanLaws.{someFrom, scans, any-map, skip, rest-cons, some-next}
 use Rattle.ucq.proofs.UnionLaws.{rows, union-from}
 

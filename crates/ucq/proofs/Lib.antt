@@ -3,6 +3,5 @@ pub mod ClosureLaws
 pub mod KeyLaws
 pub mod ScanLaws
 pub mod StartLaws
-pub mod TableLaws
 pub mod UnionLaws
 pub mod WrittenLaws

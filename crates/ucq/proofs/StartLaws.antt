@@ -16,7 +16,7 @@ use Rattle.theory.specs.Union.{sameQuery, zeroStep, refuses7}
 use Rattle.words.specs.Records.{termOf, atomOf, stepOf}
 use Rattle.words.specs.Words.{TermWords, queryOf, Small, memberOf, unionIn}
 use Rattle.words.specs.declared.QueryWords.{QueryWords}
-use Rattle.ucq.specs.Rows.{Row, Rows, memberAt}
+use Rattle.rows.specs.Rows.{Row, Rows, memberAt}
 use Rattle.ucq.proofs.ScanLaws.{allFrom, scans}
 
 -- ---- two arrays side by side

@@ -10,7 +10,7 @@ use lib.Seq.{length-take-le, getD-take}
 use Rattle.theory.specs.Lists.{At, numbers}
 use Rattle.words.specs.Records.{ruleOf}
 use Rattle.words.specs.Words.{rulesIn, unionIn}
-use Rattle.ucq.specs.Rows.{Row, Rows, rowAt, memberAt}
+use Rattle.rows.specs.Rows.{Row, Rows, rowAt, memberAt}
 
 -- ---- rows
 

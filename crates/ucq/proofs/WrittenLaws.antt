@@ -20,7 +20,7 @@ use Rattle.words.specs.Words.{queryOf, Small, rulesIn, memberOf, unionIn}
 use Rattle.words.specs.declared.QueryWords.{QueryWords}
 use Rattle.rewriting.specs.declared.steps.QueryFound.{QueryFound}
 use Rattle.rewriting.specs.StepResults.{queryFound}
-use Rattle.ucq.specs.Rows.{memberAt}
+use Rattle.rows.specs.Rows.{memberAt}
 use Rattle.ucq.specs.Written.{stepFrom}
 use Rattle.ucq.proofs.ScanLaws.{someFrom, scans}
 use Rattle.ucq.proofs.UnionLaws.{rows, union-at, union-from, rule-there, no-rule-there}

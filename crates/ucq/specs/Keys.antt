@@ -4,7 +4,7 @@ use Prim.Native.Nat.{ℕ, _≤_, _<_}
 use mathlib.Core.List.{List}
 use lib.ListN.{length, getD}
 use Rattle.key.specs.Key.{key}
-use Rattle.ucq.specs.Rows.{memberAt}
+use Rattle.rows.specs.Rows.{memberAt}
 
 -- each of the n members' key stands in the list
 pub record Keys (table : List ℕ) (n : ℕ) (keys : List ℕ) : Type 0 where

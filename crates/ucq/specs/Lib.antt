@@ -2,5 +2,4 @@
 pub mod Closure
 pub mod Keys
 pub mod Numbers
-pub mod Rows
 pub mod Written

@@ -15,7 +15,7 @@ ghost use Rattle.theory.specs.Syntax.{Query};
 ghost use Rattle.theory.specs.Union.{refuses10 as refusesTen, refuses11 as refusesEleven, check};
 ghost use Rattle.words.specs.Words.{queryOf, Small, rulesIn, unionIn};
 ghost use Rattle.ucq.specs.Numbers.{numberOf};
-ghost use Rattle.ucq.specs.Rows.{Rows};
+ghost use Rattle.rows.specs.Rows.{Rows};
 
 // The first of refusals 10 and 11 that applies, or 0. The list is lent for the members' keys.
 fn check_alike(rules: &[u64], count: usize, table: &[u64], n: usize, keys: &mut [u64]) -> u32

@@ -1,9 +1,9 @@
 // Refusal 11: every step from every member leads to a question that is alike to a member.
 use crate::keys::alike_to_member;
-use crate::table::load;
 use rewriting::steps::QueryFound;
 use rewriting::steps::merge_step;
 use rewriting::steps::rule_step;
+use rows::load;
 use words::QueryWords;
 ghost use mathlib.Core.Path.{_≡_};
 ghost use mathlib.Core.Bool.{true};
@@ -17,7 +17,7 @@ ghost use Rattle.words.specs.Words.{queryOf, Small, rulesIn, unionIn};
 ghost use Rattle.rewriting.specs.StepResults.{queryFound};
 ghost use Rattle.ucq.specs.Closure.{outside, leadsOutside};
 ghost use Rattle.ucq.specs.Keys.{Keys};
-ghost use Rattle.ucq.specs.Rows.{Rows, memberAt};
+ghost use Rattle.rows.specs.Rows.{Rows, memberAt};
 
 // Whether a step gives a question that is alike to no member.
 fn leads_outside(r: QueryFound, table: &[u64], n: usize, keys: &[u64]) -> bool

@@ -1,7 +1,7 @@
 // Refusal 10, and which member a question is alike to: members with another key are passed over.
-use crate::table::load;
 use key::key_of;
 use renaming::search::alike;
+use rows::load;
 use words::QueryWords;
 ghost use mathlib.Core.Path.{_≡_};
 ghost use mathlib.Core.List.{List};
@@ -14,7 +14,7 @@ ghost use Rattle.theory.specs.Union.{refuses10 as refusesTen};
 ghost use Rattle.words.specs.Words.{queryOf, Small, unionIn};
 ghost use Rattle.key.specs.Key.{key};
 ghost use Rattle.ucq.specs.Keys.{Keys};
-ghost use Rattle.ucq.specs.Rows.{Rows};
+ghost use Rattle.rows.specs.Rows.{Rows};
 
 // The keys of the n members are put into the list.
 pub fn fill_keys(table: &[u64], n: usize, keys: &mut [u64])

@@ -3,5 +3,4 @@ pub mod check;
 pub mod closure;
 pub mod keys;
 pub mod start;
-pub mod table;
 pub mod written;

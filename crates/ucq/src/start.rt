@@ -1,5 +1,5 @@
 // Refusal 7: member 0 is the question, with no step beside it.
-use crate::table::load;
+use rows::load;
 use words::QueryWords;
 use words::same_atom;
 use words::same_term;
@@ -12,7 +12,7 @@ ghost use Rattle.theory.specs.Syntax.{Rule, sameTerm, sameAtom};
 ghost use Rattle.theory.specs.Union.{sameQuery, refuses7 as refusesSeven};
 ghost use Rattle.words.specs.Records.{termOf, atomOf};
 ghost use Rattle.words.specs.Words.{TermWords, queryOf, Small, unionIn};
-ghost use Rattle.ucq.specs.Rows.{Rows};
+ghost use Rattle.rows.specs.Rows.{Rows};
 
 // Whether the first n words of two arrays are the same terms.
 fn equal_terms(a: [u64; 4], b: [u64; 4], n: usize) -> bool

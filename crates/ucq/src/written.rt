@@ -1,13 +1,13 @@
 // Refusals 8 and 9: the step written beside each later member, and what it yields.
-use crate::table::atom_in;
-use crate::table::kind_in;
-use crate::table::load;
-use crate::table::other_in;
-use crate::table::parent_in;
 use renaming::search::alike;
 use rewriting::steps::QueryFound;
 use rewriting::steps::merge_step;
 use rewriting::steps::rule_step;
+use rows::atom_in;
+use rows::kind_in;
+use rows::load;
+use rows::other_in;
+use rows::parent_in;
 use words::QueryWords;
 ghost use mathlib.Core.Path.{_≡_};
 ghost use mathlib.Core.Bool.{not};
@@ -21,7 +21,7 @@ ghost use Rattle.theory.specs.Union.{yield, yieldsUnlike, refuses8 as refusesEi
 ghost use Rattle.words.specs.Records.{stepOf};
 ghost use Rattle.words.specs.Words.{queryOf, Small, rulesIn, unionIn};
 ghost use Rattle.rewriting.specs.StepResults.{queryFound};
-ghost use Rattle.ucq.specs.Rows.{Rows, memberAt};
+ghost use Rattle.rows.specs.Rows.{Rows, memberAt};
 ghost use Rattle.ucq.specs.Written.{stepFrom};
 
 // No question, where a step does not apply.

@@ -6,9 +6,6 @@ use Rattle.renaming.specs.Partial.{mayBe}
 use Rattle.renaming.proofs.PartialLaws.{laws, anyFrom}
 use Rattle.renaming.proofs.partial.goes_somewhere.Statement.{statement}
 use Rattle.renaming.proofs.partial.goes_somewhere.Tie as tie
-use Rattle.renaming.proofs.partial.goes_somewhere.Reads as reads
-use Rattle.renaming.proofs.partial.goes_somewhere.Lts as lts
-use Rattle.renaming.proofs.partial.may_atom.Reads as may-atom-reads
 
 abbrev Inv-loop : tie.InvT-loop
 Inv-loop m a atoms n i₀ i = (i ≤ n) × (anyFrom (λ b. onAtoms (mayBe m) (atomOf 24 a) b) n atoms i ≡ anyFrom (λ b. onAtoms (mayBe m) (atomOf 24 a) b) n atoms 0)
@@ -16,54 +13,5 @@ Inv-loop m a atoms n i₀ i = (i ≤ n) × (anyFrom (λ b. onAtoms (mayBe m) (at
 abbrev μ-loop : tie.MeasureT-loop
 μ-loop m a atoms n i₀ i = n - i
 
--- src/partial.rt:111:5
-loop-holds : tie.Need-loop-holds Inv-loop μ-loop
-loop-holds c = search laws
-
--- src/partial.rt:112:27
-mul-may-atom : tie.Need-mul-may-atom Inv-loop μ-loop
-mul-may-atom c = search laws
-
--- src/partial.rt:112:27
-array-read-may-atom : tie.Need-array-read-may-atom Inv-loop μ-loop
-array-read-may-atom c = search laws
-
--- src/partial.rt:112:12
-may-atom-requires : tie.Need-may-atom-requires Inv-loop μ-loop
-may-atom-requires c κs = search laws
-
--- src/partial.rt:113:13
-returns : tie.Need-returns Inv-loop μ-loop
-returns c = search laws
-
--- src/partial.rt:115:9
-add-i : tie.Need-add-i Inv-loop μ-loop
-add-i c = search laws
-
--- src/partial.rt:111:5
-loop-less : tie.Need-loop-less Inv-loop μ-loop
-loop-less c = search laws
-
--- src/partial.rt:111:5
-loop-again : tie.Need-loop-again Inv-loop μ-loop
-loop-again c = search laws
-
--- src/partial.rt:104:1
-returns-2 : tie.Need-returns-2 Inv-loop μ-loop
-returns-2 c = search laws
-
 pub goes-somewhere-spec : {M : Type 1} → statement M
-goes-somewhere-spec =
-    tie.close
-    (tie.spec
-    Inv-loop
-    μ-loop
-    loop-holds
-    mul-may-atom
-    array-read-may-atom
-    may-atom-requires
-    returns
-    add-i
-    loop-less
-    loop-again
-    returns-2)
+goes-somewhere-spec = tie.close (tie.spec Inv-loop μ-loop (λ c. search laws) (λ c. search laws) (λ c. search laws) (λ c κs. search laws) (λ c. search laws) (λ c. search laws) (λ c. search laws) (λ c. search laws) (λ c. search laws))

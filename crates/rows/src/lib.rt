@@ -5,7 +5,7 @@ ghost use Prim.Native.Nat.{_+_, _*_, _≤_};
 ghost use lib.ListN.{length, take, drop};
 ghost use Rattle.words.specs.Records.{field};
 ghost use Rattle.words.specs.Words.{queryOf, Small};
-ghost use Rattle.ucq.specs.Rows.{Row, rowAt, memberAt};
+ghost use Rattle.rows.specs.Rows.{Row, rowAt, memberAt};
 
 // Four words of the table.
 fn four_from(table: &[u64], at: usize) -> [u64; 4]

@@ -14,7 +14,7 @@ use Rattle.theory.specs.Syntax.{var, terms}
 use Rattle.words.specs.Records.{termOf, atomOf}
 use Rattle.words.specs.Words.{TermWords, queryOf, Small, memberOf}
 use Rattle.words.specs.declared.QueryWords.{QueryWords}
-use Rattle.ucq.specs.Rows.{Row, rowAt, memberAt}
+use Rattle.rows.specs.Rows.{Row, rowAt, memberAt}
 
 -- ---- words in a row
 

@@ -1,6 +1,6 @@
-use Rattle.ucq.proofs.TableLaws.{laws}
-use Rattle.ucq.proofs.table.eight_from.Statement.{statement}
-use Rattle.ucq.proofs.table.eight_from.Tie as tie
+use Rattle.rows.proofs.TableLaws.{laws}
+use Rattle.rows.proofs.eight_from.Statement.{statement}
+use Rattle.rows.proofs.eight_from.Tie as tie
 
 pub eight-from-spec : {M : Type 1} → statement M
 eight-from-spec = tie.close (tie.spec (λ c. search laws) (λ c. search laws) (λ c. search laws) (λ c. search laws) (λ c. search laws) (λ c. search laws) (λ c. search laws) (λ c. search laws) (λ c. search laws) (λ c. search laws) (λ c. search laws) (λ c. search laws) (λ c. search laws) (λ c. search laws) (λ c. search laws) (λ c. search laws) (λ c. search laws) (λ c. search laws) (λ c. search laws) (λ c. search laws) (λ c. search laws) (λ c. search laws) (λ c. search laws) (λ c. search laws))

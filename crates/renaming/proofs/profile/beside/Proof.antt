@@ -1,0 +1,14 @@
+use Prim.Native.Nat.{_-_, _≤_}
+use Rattle.renaming.specs.UsedVariables.{standsIn}
+use Rattle.renaming.proofs.ProfileLaws.{laws, Gathering}
+use Rattle.renaming.proofs.profile.beside.Statement.{statement}
+use Rattle.renaming.proofs.profile.beside.Tie as tie
+
+abbrev Inv-loop : tie.InvT-loop
+Inv-loop v atoms n set₀ i₀ set i = (i ≤ n) × Gathering (standsIn v) n atoms set i
+
+abbrev μ-loop : tie.MeasureT-loop
+μ-loop v atoms n set₀ i₀ set i = n - i
+
+pub beside-spec : {M : Type 1} → statement M
+beside-spec = tie.close (tie.spec Inv-loop μ-loop (λ c. search laws) (λ c. search laws) (λ c. search laws) (λ c κs. search laws) (λ c. search laws) (λ c. search laws) (λ c κs. search laws) (λ c. search laws) (λ c. search laws) (λ c. search laws) (λ c. search laws) (λ c. search laws) (λ c. search laws) (λ c. search laws))
