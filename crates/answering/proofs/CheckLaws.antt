@@ -27,7 +27,7 @@ use Rattle.sheets.specs.Laws.UnionRefusals.{not6-iff, questionStart, memberQues
 use Rattle.sheets.specs.Laws.OneList.{first-positive}
 use Rattle.read_question.specs.QuestionWords.{ReadFrom}
 use Rattle.read_union.specs.Members.{NarrowRows}
-use Rattle.ucq.specs.Numbers.{numberOf as numberIn}
+use Rattle.theory.specs.Refusals.{numberOf as numberIn}
 use Rattle.rows.specs.Rows.{Rows, Row}
 use Rattle.answering.specs.Laws.Checking.{rules-stop, question-stops, question-passes}
 use Rattle.answering.specs.Demands.{sheetsOf, checkNumber, SoundAndAccepted, zero-means}

@@ -3,7 +3,7 @@ use read_question::read_question;
 use read_rules::read_rules;
 use read_union::read_union;
 use records::partners::default_partners;
-use ucq::check::check_union;
+use ucq::check_union;
 use words::QueryWords;
 ghost use mathlib.Core.Path.{_≡_};
 ghost use mathlib.Core.Logic.{_↔_};

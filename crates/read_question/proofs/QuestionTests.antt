@@ -3,7 +3,7 @@ use mathlib.Core.Path.{_≡_, refl, sym, ap, _∙_, subst}
 use Prim.Native.Nat.{ℕ, suc, _+_, _/_, _≤_, _<_}
 use native.Mathlib.Numerals.{add-one}
 use native.Mathlib.Omega.{arith}
-use mathlib.Core.Bool.{Bool, true, false, not, _&&_, _||_, or-assoc}
+use mathlib.Core.Bool.{Bool, true, false, not, _&&_, _||_}
 use mathlib.Core.List.{List, [], _∷_, _++_, map}
 use lib.ListN.{length, getD, take, drop, drop-of-length-le}
 use lib.Seq.{drop-cons, getD-take, length-take-le}
@@ -12,6 +12,7 @@ use borrow.Author.Tests.{eq-eqb, ne-eqb}
 use Rattle.theory.specs.Lists.{any, all}
 use Rattle.theory.specs.Refusals.{firstRefusal}
 use Rattle.theory.specs.Syntax.{Term, Atom, args, places, sameTerm, sameAtom}
+use Rattle.theory.specs.Laws.Lists.{any-append}
 use Rattle.sheets.specs.Format.{questionLength, queryAt}
 use Rattle.words.specs.Records.{termOf, atomOf}
 use Rattle.sheets.specs.Partners.{queryAsRead}
@@ -35,11 +36,6 @@ from-nil : (words : List ℕ) (i n : ℕ) → n ≤ i → n ≤ length words →
 from-nil words i n h g = drop-of-length-le (take n words) {i = i} (rw (length-take-le n words g) h)
 
 -- ---- an answer term in the atoms
-
-any-append : {X : Type 0} (p : X → Bool) (xs ys : List X) → any p (xs ++ ys) ≡ (any p xs || any p ys)
-unfolding any
-any-append p [] ys = refl
-any-append p (x ∷ xs) ys = ap (λ b. p x || b) (any-append p xs ys) ∙ sym (or-assoc (p x) (any p xs) (any p ys))
 
 module _ (t n : ℕ) (atoms : List ℕ) where
   -- whether the term stands in an atom from index i on

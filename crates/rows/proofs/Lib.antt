@@ -1,1 +1,3 @@
+pub mod ScanLaws
 pub mod TableLaws
+pub mod UnionLaws

@@ -8,6 +8,7 @@ use lib.Dec.{eqb, leb, ltb}
 use lib.ListN.{length, take, drop}
 use Rattle.theory.specs.Lists.{pick, any, all, numbers}
 use Rattle.theory.specs.Refusals.{firstRefusal}
+unfoldable pub use Rattle.theory.specs.Refusals.{numberOf}
 use Rattle.theory.specs.Syntax.{Term, var, const, Atom, Rule, Query, Member, UCQ, Fact, places, sameTerm, sameAtom}
 use Rattle.theory.specs.Union.{refuses7, refuses8, refuses9, refuses10, refuses11}
 use Rattle.sheets.specs.Bits.{numberAt}
@@ -234,11 +235,6 @@ module _ (partners : List ℕ) (w : ℕ) where
   -- refusals that checking or drawing gains later count here too": sheets are sound if none of the list's refusals that read them applies.
   abbrev pub Sound : Which → Sheets → Type 0
   Sound takes sheets = refusalOf takes sheets ≡ none
-
--- "A call that isn't refused returns number 0"
-unfoldable pub numberOf : Option ℕ → ℕ
-numberOf none = 0
-numberOf (some n) = n
 
 -- one sheet's own refusals, in the list's order
 unfoldable pub ruleRefusals : List ℕ → List (ℕ × Bool)

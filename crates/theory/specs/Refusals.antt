@@ -13,6 +13,11 @@ unfoldable pub firstRefusal : List (ℕ × Bool) → Option ℕ
 firstRefusal [] = none
 firstRefusal (e ∷ es) = let later = firstRefusal es in pick (e .1) (some (e .0)) later
 
+-- "A refusal returns its number [..]. A call that isn't refused returns number 0"
+unfoldable pub numberOf : Option ℕ → ℕ
+numberOf none = 0
+numberOf (some n) = n
+
 -- n is the number of the first condition that holds
 abbrev pub First : List {1} (ℕ × Type 0) → ℕ → Type 0
 First [] n = ⊥

@@ -4,10 +4,9 @@ use Prim.Native.Nat.{ℕ}
 use mathlib.Core.Bool.{Bool, true, false}
 use mathlib.Core.List.{List, [], _∷_}
 use borrow.Author.Needs.{needs}
-use Rattle.theory.specs.Refusals.{firstRefusal}
+use Rattle.theory.specs.Refusals.{firstRefusal, numberOf}
 use Rattle.theory.specs.Syntax.{Rule, Query, UCQ}
 use Rattle.theory.specs.Union.{refuses7, refuses8, refuses9, refuses10, refuses11, check}
-use Rattle.ucq.specs.Numbers.{numberOf}
 
 -- 10 and 11
 abbrev lastTwo : List Rule → Query → UCQ → List (ℕ × Bool)

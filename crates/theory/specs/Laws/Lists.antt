@@ -5,9 +5,9 @@ use Prim.Native.Nat.{ℕ, zero, suc, _+_, _≤_, _<_, max, zero-le, suc-le-suc}
 use native.Mathlib.Nat.{le-refl, eq-or-lt-of-le}
 use native.Mathlib.Decide.{ℕ-discrete}
 use native.Mathlib.Omega.{arith}
-use mathlib.Core.Bool.{Bool, true, false}
+use mathlib.Core.Bool.{Bool, true, false, _||_, or-assoc}
 use mathlib.Core.Option.{Option, none, some}
-use mathlib.Core.List.{List, [], _∷_, map, map-map, map-id, foldr, flatMap, List·Memᴰ·head, List·Memᴰ·tail, List·Memᴰ·not-nil, List·Memᴰ·cases-cons, List·Memᴰ·eq-of-singleton, List·Memᴰ·append-cases, Memᴰ·append-left, Memᴰ·append-right, Memᴰ·cast}
+use mathlib.Core.List.{List, [], _∷_, _++_, map, map-map, map-id, foldr, flatMap, List·Memᴰ·head, List·Memᴰ·tail, List·Memᴰ·not-nil, List·Memᴰ·cases-cons, List·Memᴰ·eq-of-singleton, List·Memᴰ·append-cases, Memᴰ·append-left, Memᴰ·append-right, Memᴰ·cast}
 use lib.Dec.{T}
 use lib.ListN.{length, getElem?, getD, set}
 use Rattle.theory.specs.Lists.{_∈_, At, Unrepeated, pick, any, all, without, once, pairwise, firstSome, toList, isSome, numbers}
@@ -328,3 +328,21 @@ pub getD-max : (xs : List ℕ) (j : ℕ) → getD xs j 0 ≤ foldr max 0 xs
 getD-max [] j = le-refl 0
 getD-max (x ∷ xs) zero = omega arith
 getD-max (x ∷ xs) (suc j) = let h : getD xs j 0 ≤ foldr max 0 xs = getD-max xs j in omega arith
+
+-- ---- some element of a list that is made of others
+
+pub any-append : {X : Type 0} (p : X → Bool) (xs ys : List X) → any p (xs ++ ys) ≡ (any p xs || any p ys)
+unfolding any
+any-append p [] ys = refl
+any-append p (x ∷ xs) ys = ap (λ b. p x || b) (any-append p xs ys) ∙ sym (or-assoc (p x) (any p xs) (any p ys))
+
+module _ {X Y : Type 0} where
+  pub any-map : (p : Y → Bool) (f : X → Y) (xs : List X) → any p (map f xs) ≡ any (λ x. p (f x)) xs
+  unfolding any
+  any-map p f [] = refl
+  any-map p f (x ∷ xs) = ap (λ b. p (f x) || b) (any-map p f xs)
+
+  pub any-flatMap : (p : Y → Bool) (f : X → List Y) (xs : List X) → any p (flatMap f xs) ≡ any (λ x. any p (f x)) xs
+  unfolding any flatMap
+  any-flatMap p f [] = refl
+  any-flatMap p f (x ∷ xs) = any-append p (f x) (flatMap f xs) ∙ ap (λ b. any p (f x) || b) (any-flatMap p f xs)

@@ -1,0 +1,160 @@
+-- Refusal 11: the steps from a member, one by one.
+use mathlib.Core.Path.{_≡_, refl, sym, ap, ap₂, _∙_, subst}
+use Prim.Native.Nat.{ℕ, _+_, _-_, _≤_, _<_}
+use native.Mathlib.Omega.{arith}
+use mathlib.Core.Bool.{Bool, true, false, not, _||_, or-false}
+use mathlib.Core.Option.{Option, some}
+use mathlib.Core.List.{List, [], _∷_, map, flatMap}
+use lib.ListN.{length, getD, take, set, length-map}
+use lib.Seq.{length-take-le}
+use borrow.Author.Needs.{needs}
+use borrow.Author.Tests.{le-ltb}
+use Rattle.theory.specs.Lists.{Unrepeated, At, any, toList, numbers}
+use Rattle.theory.specs.Syntax.{Rule, Query, UCQ, mapAtom, subst-term}
+use Rattle.theory.specs.Rewriting.{changeAtom, substitute, ruleStep, mergeStep, steps}
+use Rattle.theory.specs.Renaming.{alike}
+use Rattle.theory.specs.Union.{refuses11}
+use Rattle.theory.specs.Laws.Syntax.{keepOnce-unrepeated}
+use Rattle.theory.specs.Laws.Steps.{ruleStep-iff, mergeStep-iff}
+use Rattle.words.specs.Records.{ruleOf, atomOf}
+use Rattle.words.specs.Words.{queryOf, Small, rulesIn, unionIn}
+use Rattle.words.specs.declared.QueryWords.{QueryWords}
+use Rattle.rewriting.specs.declared.steps.QueryFound.{QueryFound}
+use Rattle.rewriting.specs.StepResults.{queryFound}
+use Rattle.theory.specs.Laws.Lists.{any-append, any-map, any-flatMap}
+use Rattle.closure.specs.Closure.{outside, leadsOutside}
+use Rattle.rows.specs.Rows.{memberAt}
+use Rattle.rows.proofs.ScanLaws.{someFrom, scans, skip, some-begins}
+use Rattle.rows.proofs.UnionLaws.{rows, union-from, rules-length}
+use Rattle.written_steps.proofs.WrittenLaws.{is-found, is-none, rule-steps}
+
+-- ---- what a step leads to
+
+-- the result of a step has no atom twice
+rule-result : (rules : List Rule) (q : Query) (i k : ℕ) (r : Query) → ruleStep rules q i k ≡ some r → Unrepeated (r .atoms)
+unfolding changeAtom
+rule-result rules q i k r e =
+    let w = ruleStep-iff rules q i k r .0 e in
+    subst (λ p. Unrepeated (p .atoms)) (w .6) (keepOnce-unrepeated (set (q .atoms) i (w .2)))
+
+merge-result : (q : Query) (i j : ℕ) (r : Query) → mergeStep q i j ≡ some r → Unrepeated (r .atoms)
+unfolding substitute
+merge-result q i j r e =
+    let w = mergeStep-iff q i j r .0 e in
+    subst (λ p. Unrepeated (p .atoms)) (w .7) (keepOnce-unrepeated (map (mapAtom (subst-term (w .3))) (q .atoms)))
+
+pub if-found : (r : QueryFound) → (r .found ≡ true → Unrepeated (queryOf (r .query) .atoms)) → r .found ≡ true → Unrepeated (queryOf (r .query) .atoms)
+if-found r h = h
+
+module _ (r : QueryFound) (union : UCQ) where
+  module _ (b : Bool) (f : r .found ≡ true) (e : b ≡ any (λ m. alike (queryOf (r .query)) (m .query)) union) where
+    compared : leadsOutside union (queryFound r) ≡ not b
+    unfolding any toList
+    compared = ap (leadsOutside union) (is-found r (queryFound r) refl f) ∙ or-false (outside union (queryOf (r .query))) ∙ ap not (sym e)
+
+    pub leads-inside : b ≡ true → false ≡ leadsOutside union (queryFound r)
+    leads-inside g = sym (compared ∙ ap not g)
+
+    pub leads-out : b ≡ false → true ≡ leadsOutside union (queryFound r)
+    leads-out g = sym (compared ∙ ap not g)
+
+  pub leads-nowhere : r .found ≡ false → false ≡ leadsOutside union (queryFound r)
+  unfolding any toList
+  leads-nowhere f = sym (ap (leadsOutside union) (is-none r (queryFound r) refl f))
+
+-- ---- rules
+
+module _ (rules : List Rule) (union : UCQ) (q : Query) where
+  -- rule k on atom i leads outside
+  abbrev pub ruleOut : ℕ → ℕ → Bool
+  ruleOut i k = leadsOutside union (ruleStep rules q i k)
+
+  -- some of the rules does
+  abbrev pub atomOut : ℕ → ℕ → Bool
+  atomOut count i = any (ruleOut i) (numbers 0 count)
+
+pub rule-distinct : (r : QueryFound) (q : QueryWords) (i x : ℕ) → ((rs : List Rule) (l : ℕ) → At rs l (ruleOf x) → queryFound r ≡ ruleStep rs (queryOf q) i l) → r .found ≡ true → Unrepeated (queryOf (r .query) .atoms)
+rule-distinct r q i x f g = rule-result (ruleOf x ∷ []) (queryOf q) i 0 (queryOf (r .query)) (is-found r (ruleStep (ruleOf x ∷ []) (queryOf q) i 0) (f (ruleOf x ∷ []) 0 refl) g)
+
+module _ (rules : List ℕ) (count : ℕ) (r : QueryFound) (q : QueryWords) (i k : ℕ) (within : count ≤ length rules) (h : k < count) (f : (rs : List Rule) (l : ℕ) → At rs l (ruleOf (getD rules k 0)) → queryFound r ≡ ruleStep rs (queryOf q) i l) where
+  pub rule-leads : (b : Bool) (union : UCQ) → b ≡ leadsOutside union (queryFound r) → b ≡ ruleOut (rulesIn rules count) union (queryOf q) i k
+  rule-leads b union e = e ∙ ap (leadsOutside union) (rule-steps rules count within r q i k h f)
+
+-- ---- merges
+
+module _ (union : UCQ) (q : Query) where
+  -- atom i merged with atom j leads outside
+  abbrev pub mergeOut : ℕ → ℕ → Bool
+  mergeOut i j = leadsOutside union (mergeStep q i j)
+
+  -- some merge of atom i does
+  abbrev pub mergesOut : ℕ → ℕ → Bool
+  mergesOut size i = any (mergeOut i) (numbers 0 size)
+
+  -- no atom is merged with itself or an earlier one
+  no-merge : (i j : ℕ) → j ≤ i → mergeOut i j ≡ false
+  unfolding mergeStep any toList
+  no-merge i j h = simp (le-ltb i j h)
+
+  pub merges-begin : (i size : ℕ) → i < size → someFrom (mergeOut i) (i + 1) size ≡ any (mergeOut i) (numbers 0 size)
+  merges-begin i size h = sym (skip (mergeOut i) size (i + 1) (i + 1) 0 (omega arith) (omega arith) (λ j g l. no-merge i j (omega arith))) ∙ some-begins (mergeOut i) size
+
+module _ (r : QueryFound) (q : QueryWords) (i j : ℕ) (e : queryFound r ≡ mergeStep (queryOf q) i j) where
+  pub merge-distinct : r .found ≡ true → Unrepeated (queryOf (r .query) .atoms)
+  merge-distinct f = merge-result (queryOf q) i j (queryOf (r .query)) (is-found r (mergeStep (queryOf q) i j) e f)
+
+  pub merge-leads : (b : Bool) (union : UCQ) → b ≡ leadsOutside union (queryFound r) → b ≡ mergeOut union (queryOf q) i j
+  merge-leads b union f = f ∙ ap (leadsOutside union) e
+
+-- ---- all steps from a member
+
+any-agree : (p q : ℕ → Bool) (xs : List ℕ) → ((x : ℕ) → p x ≡ q x) → any p xs ≡ any q xs
+unfolding any
+any-agree p q [] h = refl
+any-agree p q (x ∷ xs) h = ap₂ _||_ (h x) (any-agree p q xs h)
+
+module _ (out : Query → Bool) (f : ℕ → ℕ → Option Query) where
+  each-pair : (is ks : List ℕ) → any out (flatMap (λ i. flatMap (λ k. toList (f i k)) ks) is) ≡ any (λ i. any (λ k. any out (toList (f i k))) ks) is
+  each-pair is ks =
+      any-flatMap out (λ i. flatMap (λ k. toList (f i k)) ks) is
+      ∙ any-agree (λ i. any out (flatMap (λ k. toList (f i k)) ks)) (λ i. any (λ k. any out (toList (f i k))) ks) is (λ i. any-flatMap out (λ k. toList (f i k)) ks)
+
+each-step : (union : UCQ) (rules : List Rule) (q : Query) → any (outside union) (steps rules q) ≡ (any (atomOut rules union q (length rules)) (numbers 0 (length (q .atoms))) || any (mergesOut union q (length (q .atoms))) (numbers 0 (length (q .atoms))))
+unfolding steps
+each-step union rules q =
+    any-append (outside union) (flatMap (λ i. flatMap (λ k. toList (ruleStep rules q i k)) (numbers 0 (length rules))) is) (flatMap (λ i. flatMap (λ j. toList (mergeStep q i j)) is) is)
+    ∙ ap₂ _||_ (each-pair (outside union) (ruleStep rules q) is (numbers 0 (length rules))) (each-pair (outside union) (mergeStep q) is is)
+  where
+    is : List ℕ
+    is = numbers 0 (length (q .atoms))
+
+module _ (rules : List ℕ) (count : ℕ) (table : List ℕ) (n j : ℕ) (q : QueryWords) (within : count ≤ length rules) (s : Small q) (eight : length (q .atoms) ≡ 8) (e : queryOf q ≡ memberAt table j .query) (b : Bool) (f : b ≡ any (atomOut (rulesIn rules count) (unionIn table n) (queryOf q) count) (numbers 0 (q .size))) where
+  size-is : length (queryOf q .atoms) ≡ q .size
+  unfolding queryOf
+  size-is = length-map (take (q .size) (q .atoms)) (atomOf 24) ∙ length-take-le (q .size) (q .atoms) (let h = s .few-atoms in omega arith)
+
+  either : any (outside (unionIn table n)) (steps (rulesIn rules count) (memberAt table j .query)) ≡ (b || any (mergesOut (unionIn table n) (queryOf q) (q .size)) (numbers 0 (q .size)))
+  either =
+      ap (λ p. any (outside (unionIn table n)) (steps (rulesIn rules count) p)) (sym e) ∙ each-step (unionIn table n) (rulesIn rules count) (queryOf q)
+      ∙ simp (rules-length rules count within, size-is, sym f)
+
+  pub atoms-lead : b ≡ true → true ≡ any (outside (unionIn table n)) (steps (rulesIn rules count) (memberAt table j .query))
+  atoms-lead g = sym (either ∙ simp g)
+
+  pub pairs-lead : (d : Bool) → b ≡ false → d ≡ any (mergesOut (unionIn table n) (queryOf q) (q .size)) (numbers 0 (q .size)) → d ≡ any (outside (unionIn table n)) (steps (rulesIn rules count) (memberAt table j .query))
+  pairs-lead d g i = i ∙ sym (either ∙ simp g)
+
+-- ---- all members
+
+module _ (rules : List Rule) (table : List ℕ) (n : ℕ) where
+  -- some step from member j leads outside
+  abbrev pub memberOut : ℕ → Bool
+  memberOut j = any (outside (unionIn table n)) (steps rules (memberAt table j .query))
+
+  pub is-eleven : (b : Bool) (q : Query) → b ≡ someFrom memberOut 0 n → b ≡ refuses11 rules q (unionIn table n)
+  unfolding refuses11
+  is-eleven b q e =
+      e ∙ sym (ap (any (λ m. any (outside (unionIn table n)) (steps rules (m .query)))) (union-from table n 0)
+      ∙ any-map (λ m. any (outside (unionIn table n)) (steps rules (m .query))) (memberAt table) (numbers 0 (n - 0)))
+
+pub ruleset laws = (needs, scans, rows, leads-inside, leads-out, leads-nowhere, rule-leads, merges-begin, merge-distinct, merge-leads, atoms-lead, pairs-lead, is-eleven)

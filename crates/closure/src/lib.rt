@@ -1,0 +1,150 @@
+// Refusal 11: every step from every member leads to a question that is alike to a member.
+use distinct_members::alike_to_member;
+use rewriting::steps::QueryFound;
+use rewriting::steps::merge_step;
+use rewriting::steps::rule_step;
+use rows::load;
+use words::QueryWords;
+ghost use mathlib.Core.Path.{_≡_};
+ghost use mathlib.Core.Bool.{true};
+ghost use Prim.Native.Nat.{_≤_, _<_};
+ghost use lib.ListN.{length};
+ghost use Rattle.theory.specs.Lists.{Unrepeated, any, numbers};
+ghost use Rattle.theory.specs.Syntax.{Query};
+ghost use Rattle.theory.specs.Rewriting.{ruleStep, mergeStep, steps};
+ghost use Rattle.theory.specs.Union.{refuses11 as refusesEleven};
+ghost use Rattle.words.specs.Words.{queryOf, Small, rulesIn, unionIn};
+ghost use Rattle.rewriting.specs.StepResults.{queryFound};
+ghost use Rattle.closure.specs.Closure.{outside, leadsOutside};
+ghost use Rattle.distinct_members.specs.Keys.{Keys};
+ghost use Rattle.rows.specs.Rows.{Rows, memberAt};
+
+// Whether a step gives a question that is alike to no member.
+fn leads_outside(r: QueryFound, table: &[u64], n: usize, keys: &[u64]) -> bool
+    requires { ⌜ Small (r .query) × (r .found ≡ true → Unrepeated (queryOf (r .query) .atoms)) × Rows (now table) n × Keys (now table) n (now keys) ⌝ }
+    ensures { λ b. ⌜ b ≡ leadsOutside (unionIn (now (table .entry)) n) (queryFound r) ⌝ }
+{
+    let q = r.query;
+    if r.found {
+        if alike_to_member(q, table, n, keys) {
+            false
+        } else {
+            true
+        }
+    } else {
+        false
+    }
+}
+
+// Whether some rule leads outside from atom i.
+fn rules_lead_outside(
+    rules: &[u64],
+    count: usize,
+    q: QueryWords,
+    i: usize,
+    table: &[u64],
+    n: usize,
+    keys: &[u64],
+) -> bool
+    requires { ⌜ (count ≤ length (now rules)) × Small q × Rows (now table) n × Keys (now table) n (now keys) ⌝ }
+    ensures { λ r. ⌜ r ≡ any (λ k. leadsOutside (unionIn (now (table .entry)) n) (ruleStep (rulesIn (now (rules .entry)) count) (queryOf q) i k)) (numbers 0 count) ⌝ }
+{
+    let mut k: usize = 0;
+    while k < count {
+        if leads_outside(rule_step(q, i, rules[k]), table, n, keys) {
+            return true;
+        }
+        k += 1;
+    }
+    false
+}
+
+// Whether some rule leads outside from some atom.
+fn atoms_lead_outside(
+    rules: &[u64],
+    count: usize,
+    q: QueryWords,
+    table: &[u64],
+    n: usize,
+    keys: &[u64],
+) -> bool
+    requires { ⌜ (count ≤ length (now rules)) × Small q × Rows (now table) n × Keys (now table) n (now keys) ⌝ }
+    ensures { λ r. ⌜ r ≡ any (λ i. any (λ k. leadsOutside (unionIn (now (table .entry)) n) (ruleStep (rulesIn (now (rules .entry)) count) (queryOf q) i k)) (numbers 0 count)) (numbers 0 (q .size)) ⌝ }
+{
+    let size = q.size;
+    let mut i: usize = 0;
+    while i < size {
+        if rules_lead_outside(rules, count, q, i, table, n, keys) {
+            return true;
+        }
+        i += 1;
+    }
+    false
+}
+
+// Whether a merge of atom i with a later one leads outside.
+fn merges_lead_outside(q: QueryWords, i: usize, table: &[u64], n: usize, keys: &[u64]) -> bool
+    requires { ⌜ Small q × (i < q .size) × Rows (now table) n × Keys (now table) n (now keys) ⌝ }
+    ensures { λ r. ⌜ r ≡ any (λ j. leadsOutside (unionIn (now (table .entry)) n) (mergeStep (queryOf q) i j)) (numbers 0 (q .size)) ⌝ }
+{
+    let size = q.size;
+    let mut j = i + 1;
+    while j < size {
+        if leads_outside(merge_step(q, i, j), table, n, keys) {
+            return true;
+        }
+        j += 1;
+    }
+    false
+}
+
+// Whether some merge leads outside.
+fn pairs_lead_outside(q: QueryWords, table: &[u64], n: usize, keys: &[u64]) -> bool
+    requires { ⌜ Small q × Rows (now table) n × Keys (now table) n (now keys) ⌝ }
+    ensures { λ r. ⌜ r ≡ any (λ i. any (λ j. leadsOutside (unionIn (now (table .entry)) n) (mergeStep (queryOf q) i j)) (numbers 0 (q .size))) (numbers 0 (q .size)) ⌝ }
+{
+    let size = q.size;
+    let mut first: usize = 0;
+    while first < size {
+        if merges_lead_outside(q, first, table, n, keys) {
+            return true;
+        }
+        first += 1;
+    }
+    false
+}
+
+// Whether some step from member m leads outside.
+fn member_leads_outside(
+    rules: &[u64],
+    count: usize,
+    table: &[u64],
+    n: usize,
+    keys: &[u64],
+    m: usize,
+) -> bool
+    requires { ⌜ (count ≤ length (now rules)) × Rows (now table) n × Keys (now table) n (now keys) × (m < n) ⌝ }
+    ensures { λ r. ⌜ r ≡ any (outside (unionIn (now (table .entry)) n)) (steps (rulesIn (now (rules .entry)) count) (memberAt (now (table .entry)) m .query)) ⌝ }
+{
+    let q = load(table, m);
+    if atoms_lead_outside(rules, count, q, table, n, keys) {
+        true
+    } else {
+        pairs_lead_outside(q, table, n, keys)
+    }
+}
+
+// Refusal 11: a step from some member leads outside.
+pub fn refuses11(rules: &[u64], count: usize, table: &[u64], n: usize, keys: &[u64]) -> bool
+    requires { ⌜ (count ≤ length (now rules)) × Rows (now table) n × Keys (now table) n (now keys) ⌝ }
+    ensures { λ r. ⌜ ((q : Query) → r ≡ refusesEleven (rulesIn (now (rules .entry)) count) q (unionIn (now (table .entry)) n)) ⌝ }
+{
+    let mut m: usize = 0;
+    while m < n {
+        if member_leads_outside(rules, count, table, n, keys, m) {
+            return true;
+        }
+        m += 1;
+    }
+    false
+}

@@ -1,6 +1,0 @@
-use Rattle.ucq.proofs.ClosureLaws.{laws, if-found}
-use Rattle.ucq.proofs.closure.leads_outside.Statement.{statement}
-use Rattle.ucq.proofs.closure.leads_outside.Tie as tie
-
-pub leads-outside-spec : {M : Type 1} → statement M
-leads-outside-spec = tie.close (tie.spec (λ c κs. search (laws, if-found)) (λ c. search laws) (λ c. search laws) (λ c. search laws))

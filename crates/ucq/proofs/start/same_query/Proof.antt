@@ -1,6 +1,0 @@
-use Rattle.ucq.proofs.StartLaws.{laws}
-use Rattle.ucq.proofs.start.same_query.Statement.{statement}
-use Rattle.ucq.proofs.start.same_query.Tie as tie
-
-pub same-query-spec : {M : Type 1} → statement M
-same-query-spec = tie.close (tie.spec (λ c. search laws) (λ c. search laws) (λ c κs. search laws) (λ c κs. search laws) (λ c. search laws) (λ c. search laws))

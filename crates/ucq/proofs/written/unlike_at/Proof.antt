@@ -1,6 +1,0 @@
-use Rattle.ucq.proofs.WrittenLaws.{laws}
-use Rattle.ucq.proofs.written.unlike_at.Statement.{statement}
-use Rattle.ucq.proofs.written.unlike_at.Tie as tie
-
-pub unlike-at-spec : {M : Type 1} → statement M
-unlike-at-spec = tie.close (tie.spec (λ c κs. search laws) (λ c κs. search laws) (λ c κs. search laws) (λ c. search laws) (λ c. search laws) (λ c. search laws))

@@ -1,5 +1,0 @@
--- What the contracts cite.
-pub mod Closure
-pub mod Keys
-pub mod Numbers
-pub mod Written
