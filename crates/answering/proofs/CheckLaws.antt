@@ -27,7 +27,6 @@ use Rattle.sheets.specs.Laws.UnionRefusals.{not6-iff, questionStart, memberQues
 use Rattle.sheets.specs.Laws.OneList.{first-positive}
 use Rattle.read_question.specs.QuestionWords.{ReadFrom}
 use Rattle.read_union.specs.Members.{NarrowRows}
-use Rattle.theory.specs.Refusals.{numberOf as numberIn}
 use Rattle.rows.specs.Rows.{Rows, Row}
 use Rattle.answering.specs.Laws.Checking.{rules-stop, question-stops, question-passes}
 use Rattle.answering.specs.Demands.{sheetsOf, checkNumber, SoundAndAccepted, zero-means}
@@ -51,11 +50,6 @@ small-member p s arity not6 m k =
     )
 
 -- ---- refusals 6 to 11
-
-same-number : (o : Option ℕ) → numberIn o ≡ numberOf o
-unfolding numberIn numberOf
-same-number none = refl
-same-number (some n) = refl
 
 no-six : (b : Bool) → _≡_ {A = ℕ} 0 (pick b 6 0) → ¬ T b
 no-six true e t = omega arith
@@ -89,10 +83,10 @@ module _ (p s : List ℕ) (arity number : ℕ) (e : number ≡ pick (refuses6 p 
       pub rows-filled : Rows table n
       rows-filled = record { long = (let l = read zero .2 in omega arith); each = row }
 
-      pub union-checked : (rules : List Rule) (q : Query) (r : ℕ) → r ≡ numberIn (check rules q (unionIn table n))
+      pub union-checked : (rules : List Rule) (q : Query) (r : ℕ) → r ≡ numberOf (check rules q (unionIn table n))
           → r ≡ pick (refuses6 p 16 arity s) 6 (numberOf (check rules q (unionAsRead p 16 s)))
       union-checked rules q r f =
-          rw (is-false (refuses6 p 16 arity s) not6) (f ∙ same-number (check rules q (unionIn table n)) ∙ ap (λ u. numberOf (check rules q u)) (read zero .3))
+          rw (is-false (refuses6 p 16 arity s) not6) (f ∙ ap (λ u. numberOf (check rules q u)) (read zero .3))
 
 -- ---- rules and question, as they were read
 

@@ -1,3 +1,4 @@
 -- The promises, and what they rest on.
 pub mod Demands
+pub mod Drawing
 pub mod Laws

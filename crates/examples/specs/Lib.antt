@@ -3,3 +3,4 @@ pub mod Notation
 pub mod Examples
 pub mod Closure
 pub mod Sheets
+pub mod Cards

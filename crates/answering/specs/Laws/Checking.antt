@@ -16,7 +16,7 @@ use Rattle.sheets.specs.Refusals.{refuses6, Sheets, onlyRules, questionAndUnion
 use Rattle.sheets.specs.Laws.OneList.{first-positive, number-stops, number-goes-on, readRules, readQuestion, readUnion, unionRefusals, checkingConditions, checking-first, rules-only, question-and-union, number-zero, checking-refused-iff}
 
 -- a number other than 0 is that of a refusal
-numbered : (o : Option ℕ) (n : ℕ) → 0 < n → (numberOf o ≡ n) ↔ (o ≡ some n)
+pub numbered : (o : Option ℕ) (n : ℕ) → 0 < n → (numberOf o ≡ n) ↔ (o ≡ some n)
 unfolding numberOf
 numbered none n l = (λ e. absurd (omega arith), λ e. absurd (none≢some e))
 numbered (some m) n l = (ap some, some-inj)

@@ -1,0 +1,136 @@
+-- The number that drawing gives, and the answers that it draws.
+use mathlib.Core.Path.{_≡_, refl, sym, ap, _∙_, subst}
+use mathlib.Core.Logic.{_⊎_, inl, inr, _↔_, Iff·trans}
+use Prim.Native.Nat.{ℕ, suc, _≤_, _<_}
+use native.Mathlib.Omega.{arith}
+use mathlib.Core.Bool.{Bool, true, false}
+use mathlib.Core.Option.{Option, none, some, orElse}
+use mathlib.Core.List.{List, [], _∷_, _++_, map, List·Memᴰ·tail}
+use lib.Dec.{T, ltb}
+use lib.ListN.{length, length-map}
+use Rattle.theory.specs.Lists.{_∈_, At, Unrepeated, guard}
+use Rattle.theory.specs.Refusals.{firstRefusal, First, NoneHolds}
+use Rattle.theory.specs.Syntax.{Member, object, value}
+use Rattle.theory.specs.Chase.{FirstReader, SecondReader}
+use Rattle.theory.specs.Evaluation.{answersOf}
+use Rattle.theory.specs.Agreement.{readers-agree}
+use Rattle.theory.specs.Laws.Options.{none≢some}
+use Rattle.theory.specs.Laws.Lists.{here, mem-at, at-equal, dropAt, mem-dropAt}
+use Rattle.theory.specs.Laws.Pigeonhole.{length-dropAt}
+use Rattle.theory.specs.Laws.Answers.{answers-iff}
+use Rattle.sheets.specs.Partners.{partners01}
+use Rattle.sheets.specs.Refusals.{Sheets, checking, drawing, onlyFacts, refusalOf, Sound, numberOf, factRefusals}
+use Rattle.sheets.specs.Laws.Tests.{ltb-tells, lt-or-le}
+use Rattle.sheets.specs.Laws.OneList.{number-zero, checking-first, facts-only, drawn, checked-accepted, drawingConditions, drawing-refused-iff, drawing-passed-iff}
+use Rattle.answering.specs.Demands.{theRules, theQuestion, theUnion, theFacts, sheetsOf, AcceptedFor, SoundFacts, SoundAndAccepted, zero-accepts, zero-means}
+use Rattle.answering.specs.Laws.Checking.{numbered}
+use Rattle.answering.specs.Laws.Conditions.{with-last, none-with-last}
+use Rattle.answering.specs.Laws.Registered.{facts-in-range, constants-in-range, found-in-range}
+
+-- ---- one more refusal at the end of the list
+
+-- a number other than 0 behind a list whose 0 says that none applies
+zero-behind : (o : Option ℕ) (b : Bool) (n : ℕ) → 0 < n → ((numberOf o ≡ 0) ↔ (o ≡ none)) → (numberOf (orElse o (guard b n)) ≡ 0) ↔ (orElse o (guard b n) ≡ none)
+unfolding numberOf orElse
+zero-behind (some m) b n l h = h
+zero-behind none true n l h = (λ e. absurd (omega arith), λ e. absurd (none≢some (sym e)))
+zero-behind none false n l h = (λ e. refl, λ e. refl)
+
+both-none : (o : Option ℕ) (b : Bool) (n : ℕ) → (orElse o (guard b n) ≡ none) ↔ ((o ≡ none) × (¬ T b))
+unfolding orElse
+both-none (some m) b n = (λ e. absurd (none≢some (sym e)), λ h. h .0)
+both-none none true n = (λ e. absurd (none≢some (sym e)), λ h. absurd (h .1 tt))
+both-none none false n = (λ e. (refl, λ t. t), λ h. refl)
+
+module _ (sheets : Sheets) (room needed : ℕ) where
+  -- 1 to 13, and then 14
+  abbrev pub refusal : Option ℕ
+  refusal = orElse (refusalOf partners01 16 drawing sheets) (guard (ltb room needed) 14)
+
+  pub positive-iff : (n : ℕ) → 0 < n → (numberOf refusal ≡ n) ↔ First (drawingConditions partners01 16 sheets ++ ((14, room < needed) ∷ [])) n
+  positive-iff n l =
+      Iff·trans (numbered refusal n l)
+      (with-last (drawingConditions partners01 16 sheets) (refusalOf partners01 16 drawing sheets) (drawing-refused-iff partners01 16 sheets) (drawing-passed-iff partners01 16 sheets)
+      14 (ltb room needed) (room < needed) (ltb-tells room needed .pass) n)
+
+  pub zero-none : (numberOf refusal ≡ 0) ↔ (refusal ≡ none)
+  zero-none = zero-behind (refusalOf partners01 16 drawing sheets) (ltb room needed) 14 (omega arith) (number-zero partners01 16 sheets drawing)
+
+  pub none-iff : (numberOf refusal ≡ 0) ↔ NoneHolds (drawingConditions partners01 16 sheets ++ ((14, room < needed) ∷ []))
+  none-iff =
+      Iff·trans zero-none
+      (none-with-last (drawingConditions partners01 16 sheets) (refusalOf partners01 16 drawing sheets) (drawing-refused-iff partners01 16 sheets) (drawing-passed-iff partners01 16 sheets)
+      14 (ltb room needed) (room < needed) (ltb-tells room needed .pass))
+
+-- ---- what is drawn
+
+module _ (rules question union facts : List ℕ) where
+  abbrev four : Sheets
+  four = record { rules = rules; question = question; union = union; facts = facts }
+
+  -- checking takes no facts
+  checked-same : refusalOf partners01 16 checking four ≡ refusalOf partners01 16 checking (sheetsOf rules question union)
+  checked-same = checking-first partners01 16 four ∙ sym (checking-first partners01 16 (sheetsOf rules question union))
+
+  facts-same : refusalOf partners01 16 onlyFacts (record { rules = []; question = []; union = []; facts = facts }) ≡ firstRefusal (factRefusals 16 facts)
+  facts-same = facts-only partners01 16 (record { rules = []; question = []; union = []; facts = facts })
+
+  -- drawing's refusals pass where checking's do and the facts are sound
+  pub drawing-sound : Sound partners01 16 drawing four ↔ (AcceptedFor rules question union × SoundFacts facts)
+  drawing-sound =
+      let d = drawn partners01 16 four in (
+        λ e. let k = d .0 e in (sym checked-same ∙ k .0, facts-same ∙ k .1),
+        λ k. d .1 (checked-same ∙ k .0, sym facts-same ∙ k .1),
+      )
+
+  pub zero-sound : (room needed : ℕ) → (numberOf (refusal four room needed) ≡ 0) ↔ (SoundAndAccepted rules question union × SoundFacts facts × (needed ≤ room))
+  zero-sound room needed =
+      let a = zero-none four room needed in
+      let b = both-none (refusalOf partners01 16 drawing four) (ltb room needed) 14 in
+      let c = ltb-tells room needed .pass in
+      let s = Iff·trans (zero-accepts rules question union .1, zero-accepts rules question union .0) (zero-means rules question union) in (
+        λ e. let k = b .0 (a .0 e) in
+            let d = drawing-sound .0 (k .0) in
+            (s .0 (d .0), d .1, not-less (k .1)),
+        λ k. a .1 (b .1 (drawing-sound .1 (s .1 (k .0), k .1), λ t. (let l = c .0 t in let m = k .2 in omega arith))),
+      )
+    where
+      not-less : ¬ T (ltb room needed) → needed ≤ room
+      not-less h = elim (lt-or-le room needed) [ inl l ↦ absurd (h (ltb-tells room needed .pass .1 l)) | inr l ↦ l ]
+
+  module _ (accepted : AcceptedFor rules question union) where
+    -- every answer has objects that 16 bits hold, and as many as the question has answer terms
+    pub answers-known : (t : List ℕ) → t ∈ answersOf (theFacts facts) (theUnion union)
+        → ((o : ℕ) → o ∈ t → o < 65536) × (length t ≡ length (theQuestion question .answers))
+    answers-known t m =
+        let sound = checked-accepted partners01 16 (sheetsOf rules question union) accepted .0 in
+        let (n, k, found) = answers-iff (theFacts facts) (theUnion union) (λ n k. sound n k .safe) t .0 m in (
+          found-in-range 65536 (theFacts facts) (facts-in-range partners01 facts) (n .query) (sound n k .safe) (constants-in-range partners01 union n k) t found,
+          sym (length-map t object) ∙ ap length (sym (found .sends)) ∙ length-map (n .query .answers) (value (found .match)) ∙ sound n k .arity-is,
+        )
+
+    -- the answers are the second reader's
+    pub answers-second : (t : List ℕ) → (t ∈ answersOf (theFacts facts) (theUnion union)) ↔ SecondReader (theRules rules) (theQuestion question) (theFacts facts) t
+    answers-second t =
+        let ok = checked-accepted partners01 16 (sheetsOf rules question union) accepted in
+        Iff·trans (answers-iff (theFacts facts) (theUnion union) (λ n k. ok .0 n k .safe) t)
+        (readers-agree (theRules rules) (theQuestion question) (theUnion union) (λ n k. ok .0 n k .distinct) (ok .1) (theFacts facts) t)
+
+-- ---- how many
+
+-- a list without repeats is no longer than one that has all its elements
+no-longer : {X : Type 0} (xs ys : List X) → Unrepeated xs → ((x : X) → x ∈ xs → x ∈ ys) → length xs ≤ length ys
+no-longer [] ys u h = omega arith
+no-longer (x ∷ xs) ys u h =
+    let (i, a) = mem-at (h x here) in
+    let l : length ys ≡ suc (length (dropAt ys i)) = length-dropAt ys i a in
+    let rest : length xs ≤ length (dropAt ys i) = no-longer xs (dropAt ys i) (u .1) (λ y m. (
+    let (j, b) = mem-at (h y (List·Memᴰ·tail m)) in
+    mem-dropAt ys i j b (λ e. u .0 (subst (λ z. z ∈ xs) (at-equal ys e b a) m)))) in
+    omega arith
+
+pub same-count : {X : Type 0} (xs ys : List X) → Unrepeated xs → Unrepeated ys → ((x : X) → (x ∈ xs) ↔ (x ∈ ys)) → length xs ≡ length ys
+same-count xs ys u v h =
+    let a : length xs ≤ length ys = no-longer xs ys u (λ x. h x .0) in
+    let b : length ys ≤ length xs = no-longer ys xs v (λ x. h x .1) in
+    omega arith

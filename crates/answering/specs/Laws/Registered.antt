@@ -1,0 +1,80 @@
+-- Whatever is found has objects that 16 bits hold: facts and answer terms come from 16-bit fields.
+use mathlib.Core.Path.{_≡_, refl, sym, ap, _∙_, subst}
+use mathlib.Core.Logic.{inl, inr}
+use Prim.Native.Nat.{ℕ, zero, _/_, _%_, _^_, _<_}
+use native.Mathlib.Omega.{arith}
+use mathlib.Core.Bool.{Bool, true, false}
+use mathlib.Core.List.{List, [], map, List·Memᴰ·cases-cons, List·Memᴰ·not-nil, Memᴰ·map, Memᴰ·of-map}
+use lib.Dec.{eqb}
+use Rattle.theory.specs.Lists.{_∈_, pick}
+use Rattle.theory.specs.Syntax.{Term, var, const, Atom, concept, role, Query, Member, Fact, Thing, object, args, mapAtom, value}
+use Rattle.theory.specs.Chase.{Round, Answer}
+use Rattle.theory.specs.Union.{Safe}
+use Rattle.theory.specs.Laws.Lists.{mem-along}
+use Rattle.theory.specs.Laws.Syntax.{places-mem, map-args, args-map}
+use Rattle.words.specs.Records.{field, termOf, factOf}
+use Rattle.sheets.specs.Format.{factRecords, factsOf, answerRecords, queryAt, memberCount, memberAt, memberStart, unionOf}
+use Rattle.sheets.specs.Partners.{atomAsRead, queryAsRead, memberAsRead}
+use Rattle.sheets.specs.Refusals.{factsAsRead, unionAsRead}
+use Rattle.sheets.specs.Laws.Tests.{record-at}
+use Rattle.sheets.specs.Laws.PartnerLaws.{args-asRead}
+
+-- ---- facts
+
+one-of : (b : Bool) (A o x y : ℕ) → o ∈ args (pick b (concept A x) (role A x y)) → x < 65536 → y < 65536 → o < 65536
+one-of true A o x y m h k = elim (List·Memᴰ·cases-cons m) [ inl e ↦ subst (λ n. n < 65536) (sym e) h | inr n ↦ absurd (List·Memᴰ·not-nil n) ]
+one-of false A o x y m h k =
+    elim (List·Memᴰ·cases-cons m) [
+      | inl e ↦ subst (λ n. n < 65536) (sym e) h
+      | inr n ↦ elim (List·Memᴰ·cases-cons n) [ inl e ↦ subst (λ n. n < 65536) (sym e) k | inr l ↦ absurd (List·Memᴰ·not-nil l) ]
+    ]
+
+fact-in-range : (x o : ℕ) → o ∈ args (factOf 16 x) → o < 65536
+unfolding factOf
+fact-in-range x o m = one-of (eqb (field 47 1 x) 0) (field 32 12 x) o (field 16 16 x) (field 0 16 x) m (omega arith) (omega arith)
+
+pub facts-in-range : (p s : List ℕ) (f : Fact) → f ∈ factsAsRead p 16 s → (o : ℕ) → o ∈ args f → o < 65536
+unfolding factsAsRead factsOf
+facts-in-range p s f m o k =
+    let (g, n, e) = Memᴰ·of-map (atomAsRead p) (factsOf 16 s) m in
+    let (x, l, d) = Memᴰ·of-map (factOf 16) (factRecords 16 s) n in
+    fact-in-range x o (subst (λ (a : Fact). o ∈ args a) (sym d) (args-asRead p g .0 (subst (λ (a : Fact). o ∈ args a) (sym e) k)))
+
+-- ---- answer terms
+
+term-in-range : (b : Bool) (n c : ℕ) → n < 65536 → pick b (var n) (const n) ≡ const c → c < 65536
+term-in-range true n c h e = absurd (let z : _≡_ {A = ℕ} 0 1 = cc in omega arith)
+term-in-range false n c h e = let d : n ≡ c = cc in omega arith
+
+query-in-range : (p s : List ℕ) (at c : ℕ) → const c ∈ queryAsRead p (queryAt 16 s at) .answers → c < 65536
+unfolding queryAsRead queryAt termOf
+query-in-range p s at c m =
+    let (x, l, e) = Memᴰ·of-map (termOf 16) (answerRecords 16 s at) m in
+    term-in-range (eqb (x / 2 ^ 16) 0) (x % 2 ^ 16) c (omega arith) e
+
+pub constants-in-range : (p s : List ℕ) (m : Member) → m ∈ unionAsRead p 16 s → (c : ℕ) → const c ∈ m .query .answers → c < 65536
+unfolding unionAsRead unionOf memberAsRead memberAt
+constants-in-range p s m k c n =
+    let (m′, k′, e) = Memᴰ·of-map (memberAsRead p) (unionOf 16 s) k in
+    let (j, l, e′) = record-at (memberAt 16 s) (memberCount s) m′ .0 k′ in
+    let d : memberAsRead p (memberAt 16 s j) ≡ m = ap (memberAsRead p) e′ ∙ e in
+    query-in-range p s _ c (subst (λ (x : Member). const c ∈ x .query .answers) (sym d) n)
+
+-- ---- what is found
+
+module _ (bound : ℕ) (facts : List Fact) (small : (f : Fact) → f ∈ facts → (o : ℕ) → o ∈ args f → o < bound) where
+  module _ (q : Query) (safe : Safe q) (constants : (c : ℕ) → const c ∈ q .answers → c < bound) (tuple : List ℕ) (found : Answer (Round [] facts zero) q tuple) where
+    -- the object that an answer term goes to
+    object-of : (t : Term) → t ∈ q .answers → (o : ℕ) → value (found .match) t ≡ object o → o < bound
+    object-of (const c) m o e = let d : c ≡ o = cc in subst (λ n. n < bound) d (constants c m)
+    object-of (var v) m o e =
+        let (a, n, k) = places-mem (q .atoms) (safe v m) in
+        let (f, l, d) = found .holds a n in
+        let (o′, k′, e′) = args-map object f (subst (λ (b : Atom Thing). found .match v ∈ args b) d (map-args (value (found .match)) a k)) in
+        let same : o′ ≡ o = (let g : object o′ ≡ object o = e′ ∙ e in cc) in
+        subst (λ n. n < bound) same (small f l o′ k′)
+
+    pub found-in-range : (o : ℕ) → o ∈ tuple → o < bound
+    found-in-range o m =
+        let (t, n, e) = Memᴰ·of-map (value (found .match)) (q .answers) (mem-along (sym (found .sends)) (Memᴰ·map object m)) in
+        object-of t n o e

@@ -1,0 +1,145 @@
+-- 01's cards K1 to K8 from bytes: number, count and every byte of the list follow from the definition that the contract of drawing
+-- names. A is concept 1 and P role 16, which has no partner; x, y, z, w are variables 0 to 3.
+use mathlib.Core.Path.{_≡_, refl}
+use Prim.Native.Nat.{ℕ, _-_}
+use mathlib.Core.Bool.{Bool, true, _&&_}
+use mathlib.Core.List.{List, [], _∷_, _++_}
+use lib.Dec.{eqb}
+use lib.ListN.{length, replicate}
+use Rattle.theory.specs.Lists.{all, pairwise}
+use Rattle.theory.specs.Union.{refuses7, refuses8, refuses9, refuses10, refuses11}
+use Rattle.theory.specs.Evaluation.{answersOf}
+use Rattle.sheets.specs.AnswerList.{listBytes}
+use Rattle.sheets.specs.Partners.{partners01}
+use Rattle.sheets.specs.Refusals.{refuses1, refuses2, refuses3, refuses4, refuses5, refuses6, refuses12, refuses13, rulesAsRead, questionAsRead, unionAsRead, factsAsRead, refusalOf, numberOf}
+use Rattle.answering.specs.Demands.{checkNumber}
+use Rattle.answering.specs.Drawing.{Outcome, outcome}
+
+-- four sheets and the length of the list; what checking gives, and what drawing gives: number, count, and the bytes before the zeros
+pub record Card : Type 0 where
+  pub rules : List ℕ
+  pub question : List ℕ
+  pub union : List ℕ
+  pub facts : List ℕ
+  pub room : ℕ
+  pub checked : ℕ
+  pub number : ℕ
+  pub count : ℕ
+  pub answers : List ℕ
+
+-- ---- sheets that several cards have
+
+-- K1: "each concept 1 is driven by something"
+abbrev rules1 : List ℕ
+rules1 = 0x10 ∷ 0x00 ∷ 0x60 ∷ 0x00 ∷ []
+
+abbrev question1 : List ℕ
+question1 = 0x11 ∷ 0x00 ∷ 0x00 ∷ 0x00 ∷ 0x80 ∷ 0x00 ∷ 0x00 ∷ 0x02 ∷ 0x00 ∷ 0x00 ∷ []
+
+-- "the question itself, the rest zero"
+abbrev itself : List ℕ
+itself = 0x00 ∷ 0x00 ∷ 0x00 ∷ 0x00 ∷ []
+
+abbrev union1 : List ℕ
+union1 =
+    0x00 ∷ 0x02 ∷ [] ++ itself ++ question1
+    ++ (0x40 ∷ 0x00 ∷ 0x00 ∷ 0x00 ∷ []) ++ (0x11 ∷ 0x00 ∷ 0x00 ∷ 0x00 ∷ 0x00 ∷ 0x04 ∷ 0x00 ∷ 0x00 ∷ 0x00 ∷ 0x00 ∷ [])
+
+abbrev facts1 : List ℕ
+facts1 = 0x00 ∷ 0x01 ∷ 0x00 ∷ 0x07 ∷ 0x00 ∷ 0x00 ∷ 0x80 ∷ 0x01 ∷ 0x00 ∷ 0x09 ∷ 0x00 ∷ 0x03 ∷ []
+
+-- "every A has a P"
+abbrev everyA : List ℕ
+everyA = 0x10 ∷ 0x00 ∷ 0x50 ∷ 0x10 ∷ []
+
+-- K3: "answer x of P(x,y), P(z,y)"
+abbrev question3 : List ℕ
+question3 = 0x12 ∷ 0x00 ∷ 0x00 ∷ 0x00 ∷ 0x80 ∷ 0x40 ∷ 0x00 ∷ 0x00 ∷ 0x00 ∷ 0x01 ∷ 0x80 ∷ 0x40 ∷ 0x00 ∷ 0x04 ∷ 0x00 ∷ 0x01 ∷ []
+
+-- K5: "no answer terms, P(x,y), P(y,z)"
+abbrev question5 : List ℕ
+question5 = 0x02 ∷ 0x80 ∷ 0x40 ∷ 0x00 ∷ 0x00 ∷ 0x00 ∷ 0x01 ∷ 0x80 ∷ 0x40 ∷ 0x00 ∷ 0x02 ∷ 0x00 ∷ 0x02 ∷ []
+
+-- K6: "answers x, y of P(x,y)"
+abbrev question6 : List ℕ
+question6 = 0x21 ∷ 0x00 ∷ 0x00 ∷ 0x00 ∷ 0x00 ∷ 0x00 ∷ 0x01 ∷ 0x80 ∷ 0x40 ∷ 0x00 ∷ 0x00 ∷ 0x00 ∷ 0x01 ∷ []
+
+-- K7: "driven by(x,y), drives(y,x)"
+abbrev question7 : List ℕ
+question7 = 0x02 ∷ 0x80 ∷ 0x04 ∷ 0x00 ∷ 0x00 ∷ 0x00 ∷ 0x01 ∷ 0x80 ∷ 0x00 ∷ 0x00 ∷ 0x02 ∷ 0x00 ∷ 0x00 ∷ []
+
+-- A(5)
+abbrev factA5 : List ℕ
+factA5 = 0x00 ∷ 0x01 ∷ 0x00 ∷ 0x05 ∷ 0x00 ∷ 0x00 ∷ []
+
+-- member 0 alone
+abbrev alone : List ℕ → List ℕ
+alone question = 0x00 ∷ 0x01 ∷ [] ++ itself ++ question
+
+-- ---- the table
+
+unfoldable pub cards : List Card
+cards =
+    -- K1: "Output, whole: `accepted 2`, `7`, `9`", from a list of 16,384 bytes
+    record { rules = rules1; question = question1; union = union1; facts = facts1; room = 16384; checked = 0; number = 0; count = 2; answers = 0 ∷ 7 ∷ 0 ∷ 9 ∷ [] }
+    -- K2: "K1 with 3 bytes of list, 14; with 4, accepted"
+    ∷ record { rules = rules1; question = question1; union = union1; facts = facts1; room = 3; checked = 0; number = 14; count = 0; answers = [] }
+    ∷ record { rules = rules1; question = question1; union = union1; facts = facts1; room = 4; checked = 0; number = 0; count = 2; answers = 0 ∷ 7 ∷ 0 ∷ 9 ∷ [] }
+    -- K3: "Members: itself, P(x,y), A(x). A(5) gives 5."
+    ∷ record {
+      rules = everyA;
+      question = question3;
+      union =
+          0x00 ∷ 0x03 ∷ [] ++ itself ++ question3
+          ++ (0x80 ∷ 0x00 ∷ 0x00 ∷ 0x01 ∷ []) ++ (0x11 ∷ 0x00 ∷ 0x00 ∷ 0x00 ∷ 0x80 ∷ 0x40 ∷ 0x00 ∷ 0x00 ∷ 0x00 ∷ 0x01 ∷ [])
+          ++ (0x40 ∷ 0x10 ∷ 0x00 ∷ 0x00 ∷ []) ++ (0x11 ∷ 0x00 ∷ 0x00 ∷ 0x00 ∷ 0x00 ∷ 0x04 ∷ 0x00 ∷ 0x00 ∷ 0x00 ∷ 0x00 ∷ []);
+      facts = factA5;
+      room = 7;
+      checked = 0;
+      number = 0;
+      count = 1;
+      answers = 0 ∷ 5 ∷ [];
+    }
+    -- K4: "K3 with member 0 only, 11."
+    ∷ record { rules = everyA; question = question3; union = alone question3; facts = factA5; room = 7; checked = 11; number = 11; count = 0; answers = [] }
+    -- K5: "A has a P, whoever is P-reached is A [..]. Six members: itself; P(x,y), A(y); P(x,x); P(x,y), P(w,y); P(x,y); A(x). A(5) gives count 1."
+    ∷ record {
+      rules = everyA ++ (0x18 ∷ 0x04 ∷ 0x00 ∷ 0x01 ∷ []);
+      question = question5;
+      union =
+          0x00 ∷ 0x06 ∷ [] ++ itself ++ question5
+          ++ (0x40 ∷ 0x01 ∷ 0x00 ∷ 0x00 ∷ []) ++ (0x02 ∷ 0x80 ∷ 0x40 ∷ 0x00 ∷ 0x00 ∷ 0x00 ∷ 0x01 ∷ 0x00 ∷ 0x04 ∷ 0x00 ∷ 0x02 ∷ 0x00 ∷ 0x00 ∷ [])
+          ++ (0x80 ∷ 0x00 ∷ 0x00 ∷ 0x01 ∷ []) ++ (0x01 ∷ 0x80 ∷ 0x40 ∷ 0x00 ∷ 0x00 ∷ 0x00 ∷ 0x00 ∷ [])
+          ++ (0x40 ∷ 0x11 ∷ 0x00 ∷ 0x01 ∷ []) ++ (0x02 ∷ 0x80 ∷ 0x40 ∷ 0x00 ∷ 0x00 ∷ 0x00 ∷ 0x01 ∷ 0x80 ∷ 0x40 ∷ 0x00 ∷ 0x06 ∷ 0x00 ∷ 0x01 ∷ [])
+          ++ (0x80 ∷ 0x30 ∷ 0x00 ∷ 0x01 ∷ []) ++ (0x01 ∷ 0x80 ∷ 0x40 ∷ 0x00 ∷ 0x00 ∷ 0x00 ∷ 0x01 ∷ [])
+          ++ (0x40 ∷ 0x40 ∷ 0x00 ∷ 0x00 ∷ []) ++ (0x01 ∷ 0x00 ∷ 0x04 ∷ 0x00 ∷ 0x00 ∷ 0x00 ∷ 0x00 ∷ []);
+      facts = factA5;
+      room = 7;
+      checked = 0;
+      number = 0;
+      count = 1;
+      answers = [];
+    }
+    -- K6: "One member; A(5) gives none."
+    ∷ record { rules = everyA; question = question6; union = alone question6; facts = factA5; room = 7; checked = 0; number = 0; count = 0; answers = [] }
+    -- K7: "5"
+    ∷ record { rules = []; question = question7; union = alone question7; facts = []; room = 7; checked = 5; number = 5; count = 0; answers = [] }
+    -- K8: "K1 without rules, member 0 alone: `accepted 1`, `9`."
+    ∷ record { rules = []; question = question1; union = alone question1; facts = facts1; room = 16384; checked = 0; number = 0; count = 1; answers = 0 ∷ 9 ∷ [] }
+    ∷ []
+
+-- ---- the proof
+
+-- number, count and list are those of the card
+unfoldable pub comesTo : Card → Outcome → Bool
+unfolding pairwise
+comesTo c o = eqb (o .number) (c .number) && eqb (o .count) (c .count) && pairwise eqb (o .list) (c .answers ++ replicate (c .room - length (c .answers)) 0)
+
+unfoldable pub holds : Card → Bool
+unfolding comesTo outcome numberOf refusalOf partners01 rulesAsRead questionAsRead unionAsRead factsAsRead answersOf listBytes
+    refuses1 refuses2 refuses3 refuses4 refuses5 refuses6 refuses7 refuses8 refuses9 refuses10 refuses11 refuses12 refuses13
+holds c = eqb (checkNumber (c .rules) (c .question) (c .union)) (c .checked) && comesTo c (outcome (c .rules) (c .question) (c .union) (c .facts) (c .room))
+
+pub cards-hold : all holds cards ≡ true
+unfolding all holds cards
+cards-hold = refl
