@@ -4,44 +4,18 @@ use Prim.Native.Nat.{ℕ, zero, suc, _+_, _*_, _≤_, _<_}
 use native.Mathlib.Numerals.{add-one}
 use native.Mathlib.Nat.{le-antisymm, add-zero, zero-add}
 use native.Mathlib.Omega.{arith}
-use mathlib.Core.List.{List, [], _∷_, map, List·Memᴰ·head, Memᴰ·append-right, Memᴰ·map, Memᴰ·cast}
+use mathlib.Core.List.{List, [], _∷_, map}
 use lib.ListN.{length, getD, take, replicate, getD-replicate}
-use lib.Seq.{split-at, getD-take, length-take-le}
 use borrow.Author.Needs.{needs}
-use Rattle.theory.specs.Lists.{_∈_}
 use Rattle.theory.specs.Syntax.{Term}
-use Rattle.theory.specs.Laws.Lists.{mem-along}
 use Rattle.theory.specs.Laws.Counting.{total}
-use Rattle.theory.specs.Laws.Syntax.{terms-answers, terms-atoms}
 use Rattle.words.specs.Records.{termOf, atomOf}
-use Rattle.words.specs.Words.{TermWords, queryOf, Small}
+use Rattle.words.specs.Words.{queryOf}
+use Rattle.words.specs.LowVariables.{answer-low, atom-low, word-below}
 use Rattle.words.specs.declared.QueryWords.{QueryWords}
 use Rattle.key.specs.Key.{top, mix, along, mixAnswer, mixAtom, given, givenBy, shapeBy, next, shapes}
-use Rattle.key.specs.Shapes.{LowTerm, LowAtom, listed, Listed, Plus, Upto}
+use Rattle.key.specs.Shapes.{listed, Listed, Plus, Upto}
 use Rattle.key.proofs.TermLaws.{given-le, givenBy-le}
-
--- ---- the word at index i
-
-word-in : (words : List ℕ) (i n : ℕ) → i < n → n ≤ length words → getD words i 0 ∈ take n words
-word-in words i n h g =
-    mem-along (sym (split-at (take n words) i 0 (rw (length-take-le n words g) h)))
-    (Memᴰ·append-right (take i (take n words)) (List·Memᴰ·head (sym (getD-take n words i 0 h))))
-
-pub word-below : (words : List ℕ) (i : ℕ) → TermWords words → getD words i 0 < 33554432
-word-below words i h = h i
-
-module _ (q : QueryWords) (i : ℕ) (s : Small q) where
-  pub answer-low : length (q .answers) ≡ 4 → i < q .terms → LowTerm (getD (q .answers) i 0)
-  unfolding queryOf
-  answer-low l h v e =
-      let f = s .few-terms in
-      s .variables v (terms-answers (queryOf q) (Memᴰ·cast e (Memᴰ·map (termOf 24) (word-in (q .answers) i (q .terms) h (omega arith)))))
-
-  pub atom-low : length (q .atoms) ≡ 8 → i < q .size → LowAtom (getD (q .atoms) i 0)
-  unfolding queryOf
-  atom-low l h v m =
-      let f = s .few-atoms in
-      s .variables v (terms-atoms (queryOf q) (Memᴰ·map (atomOf 24) (word-in (q .atoms) i (q .size) h (omega arith))) m)
 
 -- ---- one word more
 

@@ -14,8 +14,9 @@ use borrow.Author.Tests.{eq-eqb, ne-eqb, eqb-true, eqb-false}
 use Rattle.theory.specs.Lists.{_∈_, pick}
 use Rattle.theory.specs.Syntax.{Term, var, const, Atom, concept, role, args, sameTerm}
 use Rattle.words.specs.Records.{field, termOf, atomOf}
+use Rattle.words.specs.LowVariables.{LowTerm, concept-atom, role-atom, first-low, second-low, variable-word, object-high, object-term}
 use Rattle.key.specs.Key.{scramble, top, mix, mixAtom, given, givenBy, shapeBy}
-use Rattle.key.specs.Shapes.{LowTerm, LowAtom, listed, Plus, Upto}
+use Rattle.key.specs.Shapes.{listed, Plus, Upto}
 
 -- ---- numbers
 
@@ -42,46 +43,13 @@ mix-made code x y r e = e
 -- ---- the term of a word
 
 low-word : (t : ℕ) → t < 32 → termOf 24 t ≡ var t
-unfolding termOf
-low-word t h =
-    let e : t / 16777216 ≡ 0 = omega arith in
-    let d : t % 16777216 ≡ t = omega arith in
-    simp (eq-eqb (t / 16777216) 0 e, d)
-
-object-word : (t : ℕ) → t < 33554432 → LowTerm t → 32 ≤ t → (c : ℕ) × (termOf 24 t ≡ const c) × (t ≡ 16777216 + c)
-unfolding termOf
-object-word t h low l = go (eqb (t / 16777216) 0) refl low
-  where
-    go : (b : Bool) → eqb (t / 16777216) 0 ≡ b → ((v : ℕ) → var v ≡ pick b (var (t % 16777216)) (const (t % 16777216)) → v < 32) → (c : ℕ) × (pick b (var (t % 16777216)) (const (t % 16777216)) ≡ const c) × (t ≡ 16777216 + c)
-    go true e below = absurd (omega (arith, eqb-true (t / 16777216) 0 e, below (t % 16777216) refl))
-    go false e below = (t % 16777216, refl, omega (arith, eqb-false (t / 16777216) 0 e))
+low-word t h = variable-word t (omega arith)
 
 pub variable-shape : (l : List ℕ) (t : ℕ) → t < 32 → getD l t 0 ≡ shapeBy (listed l) (termOf 24 t)
 variable-shape l t h = sym (ap (shapeBy (listed l)) (low-word t h))
 
 pub object-shape : (h : ℕ → ℕ) (t : ℕ) → t < 33554432 → LowTerm t → 32 ≤ t → t ≡ shapeBy h (termOf 24 t)
-object-shape h t below low l = let w = object-word t below low l in w .2 ∙ sym (ap (shapeBy h) (w .1))
-
--- ---- the atom of a word
-
-concept-word : (a : ℕ) → field 63 1 a ≡ 0 → atomOf 24 a ≡ concept (field 50 12 a) (termOf 24 (field 25 25 a))
-unfolding atomOf
-concept-word a e = simp (eq-eqb (field 63 1 a) 0 e)
-
-role-word : (a : ℕ) → (field 63 1 a ≡ 0 → ⊥) → atomOf 24 a ≡ role (field 50 12 a) (termOf 24 (field 25 25 a)) (termOf 24 (field 0 25 a))
-unfolding atomOf
-role-word a e = simp (ne-eqb (field 63 1 a) 0 e)
-
-pub first-low : (a t : ℕ) → LowAtom a → t ≡ field 25 25 a → LowTerm t
-first-low a t low e v d =
-    elim (ℕ-discrete (field 63 1 a) 0) [
-      | yes k ↦ low v (subst (λ x. var v ∈ args x) (sym (concept-word a k)) (List·Memᴰ·head (d ∙ ap (termOf 24) e)))
-      | no k ↦ low v (subst (λ x. var v ∈ args x) (sym (role-word a k)) (List·Memᴰ·head (d ∙ ap (termOf 24) e)))
-    ]
-
-pub second-low : (a t k : ℕ) → LowAtom a → k ≡ field 63 1 a → (k ≡ 0 → ⊥) → t ≡ field 0 25 a → LowTerm t
-second-low a t k low ka z e v d =
-    low v (subst (λ x. var v ∈ args x) (sym (role-word a (λ y. z (ka ∙ y)))) (List·Memᴰ·tail (List·Memᴰ·head (d ∙ ap (termOf 24) e))))
+object-shape h t below low l = let e : t ≡ 16777216 + t % 16777216 = omega (arith, object-high t low l) in e ∙ sym (ap (shapeBy h) (object-term t low l))
 
 -- ---- the number of an atom
 
@@ -94,11 +62,11 @@ two-terms b c e d = simp (sym e ∙ d)
 module _ (s : Term → ℕ) (a k n t x r : ℕ) (ka : k ≡ field 63 1 a) (na : n ≡ field 50 12 a) (ta : t ≡ field 25 25 a) (xt : x ≡ s (termOf 24 t)) where
   pub concept-mixed : k ≡ 0 → r ≡ mix (4 * n + 2) x 0 → r ≡ mixAtom s (atomOf 24 a)
   unfolding mixAtom
-  concept-mixed z e = e ∙ sym (simp (concept-word a (sym ka ∙ z), sym na, sym ta, sym xt))
+  concept-mixed z e = e ∙ sym (simp (concept-atom a (sym ka ∙ z), sym na, sym ta, sym xt))
 
   pub role-mixed : (u y c : ℕ) → (k ≡ 0 → ⊥) → u ≡ field 0 25 a → y ≡ s (termOf 24 u) → c ≡ pick (sameTerm (termOf 24 t) (termOf 24 u)) 4 3 → r ≡ mix (4 * n + c) x y → r ≡ mixAtom s (atomOf 24 a)
   unfolding mixAtom
-  role-mixed u y c z ua yu cp e = e ∙ sym (simp (role-word a (λ w. z (ka ∙ w)), sym na, sym ta, sym ua, sym xt, sym yu, sym cp))
+  role-mixed u y c z ua yu cp e = e ∙ sym (simp (role-atom a (λ w. z (ka ∙ w)), sym na, sym ta, sym ua, sym xt, sym yu, sym cp))
 
 -- ---- what a place gives
 
@@ -124,7 +92,7 @@ given-variable l t w b h = record {
 
 pub given-object : (l : List ℕ) (t w : ℕ) → t < 33554432 → LowTerm t → 32 ≤ t → Plus (given (termOf 24 t) w) l l
 unfolding given sameTerm
-given-object l t w below low h = record { as-long = refl; plus = λ v k. sym (simp (object-word t below low h .1, add-zero)) }
+given-object l t w below low h = record { as-long = refl; plus = λ v k. sym (simp (object-term t low h, add-zero)) }
 
 pub given-le : (t : Term) (w v : ℕ) → given t w v ≤ w
 unfolding given
@@ -156,11 +124,11 @@ givenBy-le s (role P t u) v =
 
 concept-gives : (s : Term → ℕ) (a v : ℕ) → field 63 1 a ≡ 0 → givenBy s (atomOf 24 a) v ≡ given (termOf 24 (field 25 25 a)) (mixAtom s (atomOf 24 a)) v
 unfolding givenBy
-concept-gives s a v e = rw (concept-word a e)
+concept-gives s a v e = rw (concept-atom a e)
 
 role-gives : (s : Term → ℕ) (a v : ℕ) → (field 63 1 a ≡ 0 → ⊥) → givenBy s (atomOf 24 a) v ≡ given (termOf 24 (field 25 25 a)) (mixAtom s (atomOf 24 a)) v + given (termOf 24 (field 0 25 a)) (scramble (mixAtom s (atomOf 24 a))) v
 unfolding givenBy
-role-gives s a v e = rw (role-word a e)
+role-gives s a v e = rw (role-atom a e)
 
 module _ (s : Term → ℕ) (l m : List ℕ) (a k t w : ℕ) (ka : k ≡ field 63 1 a) (ta : t ≡ field 25 25 a) (wa : w ≡ mixAtom s (atomOf 24 a)) (g : Plus (given (termOf 24 t) w) l m) where
   pub concept-given : k ≡ 0 → Plus (givenBy s (atomOf 24 a)) l m

@@ -3,18 +3,7 @@ use mathlib.Core.Path.{_≡_}
 use Prim.Native.Nat.{ℕ, _+_, _*_, _≤_, _<_}
 use mathlib.Core.List.{List}
 use lib.ListN.{length, getD}
-use Rattle.theory.specs.Lists.{_∈_}
-use Rattle.theory.specs.Syntax.{var, args}
-use Rattle.words.specs.Records.{termOf, atomOf}
 use Rattle.key.specs.Key.{top}
-
--- the word's term is no variable from 32 on
-abbrev pub LowTerm : ℕ → Type 0
-LowTerm t = (v : ℕ) → var v ≡ termOf 24 t → v < 32
-
--- nor is any term of the word's atom
-abbrev pub LowAtom : ℕ → Type 0
-LowAtom a = (v : ℕ) → var v ∈ args (atomOf 24 a) → v < 32
 
 -- what a list says of a variable
 abbrev pub listed : List ℕ → ℕ → ℕ

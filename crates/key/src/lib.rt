@@ -12,8 +12,9 @@ ghost use Rattle.theory.specs.Syntax.{sameTerm};
 ghost use Rattle.theory.specs.Laws.Counting.{total};
 ghost use Rattle.words.specs.Records.{termOf, atomOf};
 ghost use Rattle.words.specs.Words.{queryOf, Small};
+ghost use Rattle.words.specs.LowVariables.{LowTerm, LowAtom};
 ghost use Rattle.key.specs.Key.{scramble, top, mix, along, mixAnswer, mixAtom, given, givenBy, shapeBy, next, shapes as shapesAfter, key};
-ghost use Rattle.key.specs.Shapes.{LowTerm, LowAtom, listed, Listed, Plus, Upto};
+ghost use Rattle.key.specs.Shapes.{listed, Listed, Plus, Upto};
 
 // The number scrambled.
 fn scrambled(m: u64) -> u64

@@ -1,12 +1,10 @@
 -- Refusals 3 to 5 on a question in words: the loops of query.rt over answer terms and atoms, and the first refusal that applies.
 use mathlib.Core.Path.{_≡_, refl, sym, ap, _∙_, subst}
-use Prim.Native.Nat.{ℕ, suc, _+_, _/_, _≤_, _<_}
-use native.Mathlib.Numerals.{add-one}
+use Prim.Native.Nat.{ℕ, _+_, _/_, _≤_, _<_}
 use native.Mathlib.Omega.{arith}
 use mathlib.Core.Bool.{Bool, true, false, not, _&&_, _||_}
 use mathlib.Core.List.{List, [], _∷_, _++_, map}
-use lib.ListN.{length, getD, take, drop, drop-of-length-le}
-use lib.Seq.{drop-cons, getD-take, length-take-le}
+use lib.ListN.{length, getD, take}
 use borrow.Author.Needs.{needs}
 use borrow.Author.Tests.{eq-eqb, ne-eqb}
 use Rattle.theory.specs.Lists.{any, all}
@@ -17,23 +15,10 @@ use Rattle.sheets.specs.Format.{questionLength, queryAt}
 use Rattle.words.specs.Records.{termOf, atomOf}
 use Rattle.sheets.specs.Partners.{queryAsRead}
 use Rattle.sheets.specs.Refusals.{covered, repeats, questionSound, refuses3, refuses4, refuses5, questionAsRead, numberOf, questionRefusals}
+use Rattle.words.specs.LowVariables.{from, from-cons, from-nil}
 use Rattle.words.specs.Words.{queryOf, TermWords}
 use Rattle.words.specs.declared.QueryWords.{QueryWords}
 use Rattle.read_question.specs.QuestionWords.{ReadFrom}
-
--- ---- the words from index i to below n
-
-abbrev pub from : ℕ → ℕ → List ℕ → List ℕ
-from i n words = drop i (take n words)
-
-from-cons : (words : List ℕ) (i n : ℕ) → i < n → n ≤ length words → from i n words ≡ getD words i 0 ∷ from (i + 1) n words
-from-cons words i n h g =
-    drop-cons (take n words) i 0 (rw (length-take-le n words g) h)
-    ∙ ap (λ x. x ∷ drop (suc i) (take n words)) (getD-take n words i 0 h)
-    ∙ ap (λ k. getD words i 0 ∷ drop k (take n words)) (sym (add-one i))
-
-from-nil : (words : List ℕ) (i n : ℕ) → n ≤ i → n ≤ length words → from i n words ≡ []
-from-nil words i n h g = drop-of-length-le (take n words) {i = i} (rw (length-take-le n words g) h)
 
 -- ---- an answer term in the atoms
 

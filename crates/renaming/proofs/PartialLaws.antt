@@ -17,12 +17,10 @@ use Rattle.sets.specs.Sets.{holds}
 use Rattle.words.specs.Records.{field, termOf, atomOf}
 use Rattle.words.specs.Words.{queryOf, Small}
 use Rattle.words.specs.declared.QueryWords.{QueryWords}
-use Rattle.renaming.specs.LowVariables.{LowTerm, LowAtom, answer-low, atom-low}
+use Rattle.words.specs.LowVariables.{LowTerm, LowAtom, answer-low, atom-low, first-low, second-low, firstOf, secondOf, variable-word, object-high, object-term, word-below, from, from-cons, from-nil}
 use Rattle.renaming.specs.Partial.{entry, mayBe, promising}
-use Rattle.renaming.specs.UsedVariables.{samePredicate}
+use Rattle.renaming.specs.Gathered.{samePredicate}
 use Rattle.renaming.specs.declared.partial.Partial.{Partial}
-use Rattle.renaming.proofs.ScanLaws.{variable-word, firstOf, secondOf, from, from-cons, from-nil, word-below}
-use Rattle.renaming.proofs.VariableLaws.{first-low, second-low}
 
 -- ---- terms
 
@@ -34,17 +32,6 @@ module _ (m : Partial) (v w u : ℕ) (e : u ≡ entry m v) where
   pub assigned-may : (u ≡ 32 → ⊥) → eqb u w ≡ mayBe m (var v) (var w)
   unfolding mayBe
   assigned-may z = simp (ne-eqb (entry m v) 32 (λ y. z (e ∙ y)), e)
-
--- a word from 32 on is that of an object
-object-word : (t : ℕ) → LowTerm t → 32 ≤ t → t / 16777216 ≡ 0 → ⊥
-unfolding termOf
-object-word t low h e =
-    let f : t % 16777216 < 32 = low (t % 16777216) (simp (eq-eqb (t / 16777216) 0 e)) in
-    omega arith
-
-object-term : (t : ℕ) → LowTerm t → 32 ≤ t → termOf 24 t ≡ const (t % 16777216)
-unfolding termOf
-object-term t low h = simp (ne-eqb (t / 16777216) 0 (object-word t low h))
 
 module _ (m : Partial) (s t : ℕ) where
   pub variables-may : (b : Bool) → s < 32 → t < 32 → b ≡ mayBe m (var s) (var t) → b ≡ mayBe m (termOf 24 s) (termOf 24 t)
@@ -64,8 +51,8 @@ module _ (m : Partial) (s t : ℕ) where
 
         to-object : 32 ≤ t → eqb s t ≡ mayBe m (const (s % 16777216)) (termOf 24 t)
         to-object ht =
-            let x = object-word s ls hs in
-            let y = object-word t lt ht in
+            let x = object-high s ls hs in
+            let y = object-high t lt ht in
             simp (object-term t lt ht)
             (same-test (eqb s t) (eqb (s % 16777216) (t % 16777216)) (
               λ h. T-eqb (s % 16777216) (t % 16777216) .1 (ap (λ n. n % 16777216) (T-eqb s t .0 h)),
@@ -114,7 +101,7 @@ module _ (a b : ℕ) (same : samePredicate (atomOf 24 a) (atomOf 24 b) ≡ true)
   tests = T-and (eqb (field 63 1 a) (field 63 1 b)) (eqb (field 50 12 a) (field 50 12 b)) .0 (subst T (sym same ∙ predicate-words a b) tt)
 
   pub second-low-too : (k g : ℕ) → k ≡ field 63 1 a → LowAtom b → (k ≡ 0 → ⊥) → g ≡ field 0 25 b → LowTerm g
-  second-low-too k g ka = second-low b k (ka ∙ T-eqb (field 63 1 a) (field 63 1 b) .0 (tests .0)) g
+  second-low-too k g ka low z e = second-low b g k low (ka ∙ T-eqb (field 63 1 a) (field 63 1 b) .0 (tests .0)) z e
 
   terms-decide : (m : Partial) → onAtoms (mayBe m) (atomOf 24 a) (atomOf 24 b) ≡ (mayBe m (firstOf a) (firstOf b) && pick (eqb (field 63 1 a) 0) true (mayBe m (secondOf a) (secondOf b)))
   terms-decide m = on-words (mayBe m) a b ∙ simp (is-true (eqb (field 63 1 a) (field 63 1 b)) (tests .0), is-true (eqb (field 50 12 a) (field 50 12 b)) (tests .1))

@@ -26,9 +26,9 @@ use Rattle.sets.specs.Sets.{holds, holds-none, holds-below}
 use Rattle.words.specs.Records.{termOf, atomOf}
 use Rattle.words.specs.Words.{queryOf}
 use Rattle.words.specs.declared.QueryWords.{QueryWords}
-use Rattle.renaming.specs.LowVariables.{atom-low}
-use Rattle.renaming.specs.UsedVariables.{Adds, standsIn, samePredicate, Gathers}
-use Rattle.renaming.proofs.ScanLaws.{variable-word, from, from-cons, from-nil}
+use Rattle.words.specs.LowVariables.{atom-low, variable-word, from, from-cons, from-nil}
+use Rattle.variables.specs.UsedVariables.{Adds}
+use Rattle.renaming.specs.Gathered.{standsIn, samePredicate, Gathers}
 
 -- ---- a list that goes one-to-one into another is no longer
 

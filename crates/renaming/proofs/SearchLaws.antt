@@ -23,7 +23,7 @@ use Rattle.theory.specs.Laws.RenamingDecided.{alike-iff}
 use Rattle.sets.specs.Sets.{holds, holds-none}
 use Rattle.words.specs.Words.{queryOf, Small}
 use Rattle.words.specs.declared.QueryWords.{QueryWords}
-use Rattle.renaming.specs.LowVariables.{atom-low}
+use Rattle.words.specs.LowVariables.{atom-low}
 use Rattle.renaming.specs.Partial.{entry, mayBe, promising, Sends}
 use Rattle.renaming.specs.Search.{Ready, Begun, Follows, Renaming, GoesOn, Offers, Allows, Judges, Decides}
 use Rattle.renaming.specs.declared.partial.Partial.{Partial}

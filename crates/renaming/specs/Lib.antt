@@ -1,5 +1,4 @@
 -- What the contracts cite.
-pub mod LowVariables
-pub mod UsedVariables
+pub mod Gathered
 pub mod Partial
 pub mod Search

@@ -2,4 +2,3 @@
 pub mod partial;
 pub mod profile;
 pub mod search;
-pub mod variables;

@@ -14,9 +14,9 @@ ghost use Rattle.theory.specs.Lists.{any, all, pairwise};
 ghost use Rattle.theory.specs.Syntax.{var, onAtoms};
 ghost use Rattle.words.specs.Records.{termOf, atomOf};
 ghost use Rattle.words.specs.Words.{queryOf, Small};
-ghost use Rattle.renaming.specs.LowVariables.{LowTerm, LowAtom};
+ghost use Rattle.words.specs.LowVariables.{LowTerm, LowAtom};
 ghost use Rattle.renaming.specs.Partial.{mayBe, promising as promisingIn, Sends};
-ghost use Rattle.renaming.specs.UsedVariables.{samePredicate};
+ghost use Rattle.renaming.specs.Gathered.{samePredicate};
 
 // Where each variable goes, 32 where it is not assigned, and the set of the targets taken.
 pub struct Partial {

@@ -1,6 +1,6 @@
 // Numbers of variables that a renaming keeps: tests that rule most renamings out before the search tries them.
 use crate::partial::same_predicate;
-use crate::variables::with_atom;
+use variables::used::with_atom;
 use words::QueryWords;
 use words::stands;
 ghost use mathlib.Core.Path.{_≡_};
@@ -11,7 +11,7 @@ ghost use Rattle.theory.specs.Syntax.{var, terms};
 ghost use Rattle.theory.specs.Renaming.{Alike};
 ghost use Rattle.words.specs.Records.{atomOf};
 ghost use Rattle.words.specs.Words.{queryOf, Small};
-ghost use Rattle.renaming.specs.UsedVariables.{standsIn, samePredicate, Gathers};
+ghost use Rattle.renaming.specs.Gathered.{standsIn, samePredicate, Gathers};
 
 // The variables of the atoms that have v in them.
 pub fn beside(q: QueryWords, v: u32) -> u32

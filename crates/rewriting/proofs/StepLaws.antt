@@ -10,7 +10,7 @@ use mathlib.Core.Option.{none, some}
 use mathlib.Core.List.{List, [], _∷_, _++_, map, map-append, append-nil, List·Memᴰ·head, List·Memᴰ·tail, Memᴰ·of-map}
 use lib.Dec.{T}
 use lib.ListN.{length, getD, getElem?, take, set}
-use lib.Seq.{take-suc, take-suc-set, take-set-lt}
+use lib.Seq.{take-suc-set, take-set-lt}
 use borrow.Author.Needs.{needs}
 use borrow.Author.Tests.{lt-ltb, le-ltb}
 use Rattle.theory.specs.Lists.{_∈_, At, pick, any, without, once}
@@ -22,25 +22,21 @@ use Rattle.theory.specs.Laws.Syntax.{sameAtom-iff, terms-atoms, terms-answers, 
 use Rattle.words.specs.Records.{ruleOf, termOf, atomOf}
 use Rattle.words.specs.Words.{TermWords, queryOf, Small}
 use Rattle.words.specs.declared.QueryWords.{QueryWords}
-use Rattle.rewriting.specs.LowVariables.{LowAtom, answer-low, atom-low}
-use Rattle.rewriting.specs.RuleOnAtom.{atomFound}
-use Rattle.rewriting.specs.Substitutions.{SmallTerm, Sound, substOf, boundOf}
+use Rattle.words.specs.LowVariables.{LowAtom, answer-low, atom-low, first-more, from, from-cons, from-nil}
+use Rattle.rule_on_atom.specs.RuleOnAtom.{atomFound}
+use Rattle.substitution.specs.Substitutions.{SmallTerm, Sound, substOf, boundOf}
 use Rattle.rewriting.specs.StepResults.{onceEach, withAtom, queryFound}
-use Rattle.rewriting.specs.declared.substitution.Substitution.{Substitution}
-use Rattle.rewriting.specs.declared.substitution.Bound.{Bound}
-use Rattle.rewriting.specs.declared.rule.AtomFound.{AtomFound}
+use Rattle.substitution.specs.declared.Substitution.{Substitution}
+use Rattle.substitution.specs.declared.Bound.{Bound}
+use Rattle.rule_on_atom.specs.declared.AtomFound.{AtomFound}
 use Rattle.rewriting.specs.declared.steps.QueryFound.{QueryFound}
-use Rattle.rewriting.proofs.ScanLaws.{from, from-cons, from-nil}
-use Rattle.rewriting.proofs.SubstitutionLaws.{place, each-stored, below32, each-below}
+use Rattle.substitution.proofs.SubstitutionLaws.{place, each-stored, below32, each-below}
 
 -- ---- on lists
 
 -- the first i + 1 words, the last of them just stored
 stored-last : {X : Type 0} (f : ℕ → X) (words : List ℕ) (i v : ℕ) → i < length words → map f (take (i + 1) (set words i v)) ≡ map f (take i words) ++ (f v ∷ [])
 stored-last f words i v h = ap (λ k. map f (take k (set words i v))) (add-one i) ∙ ap (map f) (take-suc-set words i v h) ∙ map-append f (take i words) (v ∷ [])
-
-first-more : {X : Type 0} (f : ℕ → X) (words : List ℕ) (i : ℕ) → i < length words → map f (take (i + 1) words) ≡ map f (take i words) ++ (f (getD words i 0) ∷ [])
-first-more f words i h = ap (λ k. map f (take k words)) (add-one i) ∙ ap (map f) (take-suc words i 0 h) ∙ map-append f (take i words) (getD words i 0 ∷ [])
 
 -- what stands at an index among the first n
 at-word : {X : Type 0} (f : ℕ → X) (n : ℕ) (words : List ℕ) (i : ℕ) → i < n → n ≤ length words → getElem? (map f (take n words)) i ≡ some (f (getD words i 0))

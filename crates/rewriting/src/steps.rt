@@ -1,7 +1,7 @@
 // The steps on a query in words: a rule on an atom, and a merge of two atoms.
-use crate::rule::rewrite_atom;
-use crate::substitution::Substitution;
-use crate::substitution::unify;
+use rule_on_atom::rewrite_atom;
+use substitution::Substitution;
+use substitution::unify;
 use words::QueryWords;
 use words::same_atom;
 ghost use mathlib.Core.Path.{_≡_};
@@ -14,8 +14,8 @@ ghost use Rattle.theory.specs.Syntax.{Rule, mapAtom, subst-term, sameAtom};
 ghost use Rattle.theory.specs.Rewriting.{substitute as substituted, changeAtom, ruleStep, mergeStep};
 ghost use Rattle.words.specs.Records.{ruleOf, termOf, atomOf};
 ghost use Rattle.words.specs.Words.{TermWords, queryOf, Small};
-ghost use Rattle.rewriting.specs.LowVariables.{LowAtom};
-ghost use Rattle.rewriting.specs.Substitutions.{Sound, substOf};
+ghost use Rattle.words.specs.LowVariables.{LowAtom};
+ghost use Rattle.substitution.specs.Substitutions.{Sound, substOf};
 ghost use Rattle.rewriting.specs.StepResults.{onceEach, withAtom, queryFound};
 
 // The query that a step leads to, where it applies; else the query before the step.

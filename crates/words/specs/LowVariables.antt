@@ -1,17 +1,18 @@
 -- 01: "Variables are 0 to 31". What this says of words.
 use mathlib.Core.Path.{_≡_, sym, ap, _∙_, subst}
-use Prim.Native.Nat.{ℕ, _≤_, _<_}
-use native.Mathlib.Decide.{ℕ-discrete}
+use Prim.Native.Nat.{ℕ, suc, _+_, _/_, _%_, _≤_, _<_}
+use native.Mathlib.Numerals.{add-one}
+use native.Mathlib.Decide.{ℕ-discrete, decLt}
 use native.Mathlib.Omega.{arith}
-use mathlib.Core.List.{List, List·Memᴰ·head, List·Memᴰ·tail, Memᴰ·append-right, Memᴰ·map, Memᴰ·cast}
-use lib.ListN.{length, getD, take}
-use lib.Seq.{split-at, getD-take, length-take-le}
+use mathlib.Core.List.{List, [], _∷_, _++_, map, map-append, List·Memᴰ·head, List·Memᴰ·tail, Memᴰ·append-right, Memᴰ·map, Memᴰ·cast}
+use lib.ListN.{length, getD, take, drop, drop-of-length-le}
+use lib.Seq.{split-at, drop-cons, take-suc, getD-take, length-take-le}
 use Rattle.theory.specs.Lists.{_∈_}
-use Rattle.theory.specs.Syntax.{var, concept, role, args}
+use Rattle.theory.specs.Syntax.{Term, var, const, concept, role, args}
 use Rattle.theory.specs.Laws.Lists.{mem-along}
 use Rattle.theory.specs.Laws.Syntax.{terms-answers, terms-atoms}
 use Rattle.words.specs.Records.{field, termOf, atomOf}
-use Rattle.words.specs.Words.{queryOf, Small}
+use Rattle.words.specs.Words.{TermWords, queryOf, Small}
 use Rattle.words.specs.declared.QueryWords.{QueryWords}
 use borrow.Author.Tests.{eq-eqb, ne-eqb}
 
@@ -63,3 +64,56 @@ first-low a t low e v d =
 pub second-low : (a t k : ℕ) → LowAtom a → k ≡ field 63 1 a → (k ≡ 0 → ⊥) → t ≡ field 0 25 a → LowTerm t
 second-low a t k low ka z e v d =
     low v (subst (λ x. var v ∈ args x) (sym (role-atom a (λ y. z (ka ∙ y)))) (List·Memᴰ·tail (List·Memᴰ·head (d ∙ ap (termOf 24) e))))
+
+-- the terms in an atom's first and second place
+abbrev pub firstOf : ℕ → Term
+firstOf a = termOf 24 (field 25 25 a)
+
+abbrev pub secondOf : ℕ → Term
+secondOf a = termOf 24 (field 0 25 a)
+
+-- ---- the term of a word
+
+-- the word of a variable is its number
+pub variable-word : (v : ℕ) → v < 16777216 → termOf 24 v ≡ var v
+unfolding termOf
+variable-word v h =
+    let high : v / 16777216 ≡ 0 = omega arith in
+    let low : v % 16777216 ≡ v = omega arith in
+    simp (high, low)
+
+-- a word from 32 on is that of an object
+pub object-high : (t : ℕ) → LowTerm t → 32 ≤ t → 16777216 ≤ t
+object-high t low h =
+    elim (decLt t 16777216) [
+      | yes l ↦ (let below : t < 32 = low t (sym (variable-word t l)) in absurd (omega arith))
+      | no l ↦ omega arith
+    ]
+
+pub object-term : (t : ℕ) → LowTerm t → 32 ≤ t → termOf 24 t ≡ const (t % 16777216)
+unfolding termOf
+object-term t low h =
+    let far : 16777216 ≤ t = object-high t low h in
+    let high : t / 16777216 ≡ 0 → ⊥ = (λ e. omega arith) in
+    simp (ne-eqb (t / 16777216) 0 high)
+
+-- the word at index i is that of a term
+pub word-below : (words : List ℕ) (i : ℕ) → TermWords words → getD words i 0 < 33554432
+word-below words i h = h i
+
+-- ---- loops over words: the first i + 1 of them, and those from index i to below n
+
+pub first-more : {X : Type 0} (f : ℕ → X) (words : List ℕ) (i : ℕ) → i < length words → map f (take (i + 1) words) ≡ map f (take i words) ++ (f (getD words i 0) ∷ [])
+first-more f words i h = ap (λ k. map f (take k words)) (add-one i) ∙ ap (map f) (take-suc words i 0 h) ∙ map-append f (take i words) (getD words i 0 ∷ [])
+
+abbrev pub from : ℕ → ℕ → List ℕ → List ℕ
+from i n words = drop i (take n words)
+
+pub from-cons : (words : List ℕ) (i n : ℕ) → i < n → n ≤ length words → from i n words ≡ getD words i 0 ∷ from (i + 1) n words
+from-cons words i n h g =
+    drop-cons (take n words) i 0 (rw (length-take-le n words g) h)
+    ∙ ap (λ x. x ∷ drop (suc i) (take n words)) (getD-take n words i 0 h)
+    ∙ ap (λ k. getD words i 0 ∷ drop k (take n words)) (sym (add-one i))
+
+pub from-nil : (words : List ℕ) (i n : ℕ) → n ≤ i → n ≤ length words → from i n words ≡ []
+from-nil words i n h g = drop-of-length-le (take n words) {i = i} (rw (length-take-le n words g) h)

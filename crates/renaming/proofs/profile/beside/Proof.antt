@@ -1,5 +1,5 @@
 use Prim.Native.Nat.{_-_, _≤_}
-use Rattle.renaming.specs.UsedVariables.{standsIn}
+use Rattle.renaming.specs.Gathered.{standsIn}
 use Rattle.renaming.proofs.ProfileLaws.{laws, Gathering}
 use Rattle.renaming.proofs.profile.beside.Statement.{statement}
 use Rattle.renaming.proofs.profile.beside.Tie as tie

@@ -1,5 +1,5 @@
 use Prim.Native.Nat.{_-_, _≤_}
-use Rattle.renaming.specs.UsedVariables.{samePredicate}
+use Rattle.renaming.specs.Gathered.{samePredicate}
 use Rattle.words.specs.Records.{atomOf}
 use Rattle.renaming.proofs.ProfileLaws.{laws, Gathering}
 use Rattle.renaming.proofs.profile.spread.Statement.{statement}

@@ -5,7 +5,7 @@ use lib.ListN.{length, take}
 use Rattle.theory.specs.Syntax.{subst-term}
 use Rattle.words.specs.Records.{termOf}
 use Rattle.words.specs.Words.{TermWords}
-use Rattle.rewriting.specs.Substitutions.{substOf}
+use Rattle.substitution.specs.Substitutions.{substOf}
 use Rattle.rewriting.proofs.StepLaws.{fillLaws}
 use Rattle.rewriting.proofs.steps.apply_answers.Statement.{statement}
 use Rattle.rewriting.proofs.steps.apply_answers.Tie as tie

@@ -4,7 +4,7 @@ use mathlib.Core.List.{map}
 use lib.ListN.{length, take}
 use Rattle.theory.specs.Syntax.{mapAtom, subst-term}
 use Rattle.words.specs.Records.{atomOf}
-use Rattle.rewriting.specs.Substitutions.{substOf}
+use Rattle.substitution.specs.Substitutions.{substOf}
 use Rattle.rewriting.proofs.StepLaws.{fillLaws}
 use Rattle.rewriting.proofs.steps.apply_atoms.Statement.{statement}
 use Rattle.rewriting.proofs.steps.apply_atoms.Tie as tie

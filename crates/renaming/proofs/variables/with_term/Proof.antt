@@ -1,6 +1,0 @@
-use Rattle.renaming.proofs.VariableLaws.{laws}
-use Rattle.renaming.proofs.variables.with_term.Statement.{statement}
-use Rattle.renaming.proofs.variables.with_term.Tie as tie
-
-pub with-term-spec : {M : Type 1} → statement M
-with-term-spec = tie.close (tie.spec (λ c. search laws) (λ c κs. search laws) (λ c. search laws) (λ c. search laws))

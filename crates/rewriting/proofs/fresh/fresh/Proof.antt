@@ -1,6 +1,0 @@
-use Rattle.rewriting.proofs.FreshLaws.{laws}
-use Rattle.rewriting.proofs.fresh.fresh.Statement.{statement}
-use Rattle.rewriting.proofs.fresh.fresh.Tie as tie
-
-pub fresh-spec : {M : Type 1} → statement M
-fresh-spec = tie.close (tie.spec (λ c κs. search laws) (λ c κs. search laws) (λ c. search laws) (λ c. search laws))

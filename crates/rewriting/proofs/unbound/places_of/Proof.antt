@@ -1,6 +1,0 @@
-use Rattle.rewriting.proofs.UnboundLaws.{laws}
-use Rattle.rewriting.proofs.unbound.places_of.Statement.{statement}
-use Rattle.rewriting.proofs.unbound.places_of.Tie as tie
-
-pub places-of-spec : {M : Type 1} → statement M
-places-of-spec = tie.close (tie.spec (λ c κs. search laws) (λ c κs. search laws) (λ c κs. search laws) (λ c κs. search laws) (λ c κs. search laws) (λ c κs. search laws) (λ c κs. search laws) (λ c. search laws) (λ c. search laws) (λ c. search laws))

@@ -1,0 +1,11 @@
+use Rattle.substitution.proofs.SubstitutionLaws.{atomLaws}
+use Rattle.substitution.proofs.Substitution.apply_atom.Statement.{statement}
+use Rattle.substitution.proofs.Substitution.apply_atom.Tie as tie
+
+pub apply-atom-spec : {M : Type 1} → statement M
+apply-atom-spec =
+    tie.close
+    (tie.spec
+    (λ c κs. search atomLaws) (λ c κs. search atomLaws) (λ c κs. search atomLaws) (λ c κs. search atomLaws)
+    (λ c κs. search atomLaws) (λ c κs. search atomLaws) (λ c κs. search atomLaws) (λ c κs. search atomLaws) (λ c. search atomLaws)
+    (λ c. search atomLaws))

@@ -1,0 +1,10 @@
+use Rattle.substitution.proofs.SubstitutionLaws.{joinLaws}
+use Rattle.substitution.proofs.Substitution.join.Statement.{statement}
+use Rattle.substitution.proofs.Substitution.join.Tie as tie
+
+pub join-spec : {M : Type 1} → statement M
+join-spec =
+    tie.close
+    (tie.spec
+    (λ c κs. search joinLaws) (λ c. search joinLaws) (λ c κs. search joinLaws) (λ c. search joinLaws) (λ c κs. search joinLaws)
+    (λ c. search joinLaws) (λ c κs. search joinLaws) (λ c. search joinLaws) (λ c. search joinLaws))

@@ -1,0 +1,14 @@
+use Prim.Native.Nat.{_-_, _≤_}
+use Rattle.variables.specs.UsedVariables.{Adds}
+use Rattle.variables.proofs.UsedLaws.{laws, firstPlaces}
+use Rattle.variables.proofs.used.with_atoms.Statement.{statement}
+use Rattle.variables.proofs.used.with_atoms.Tie as tie
+
+abbrev Inv-loop : tie.InvT-loop
+Inv-loop set atoms n all₀ k₀ all k = (k ≤ n) × Adds (firstPlaces k atoms) set all
+
+abbrev μ-loop : tie.MeasureT-loop
+μ-loop set atoms n all₀ k₀ all k = n - k
+
+pub with-atoms-spec : {M : Type 1} → statement M
+with-atoms-spec = tie.close (tie.spec Inv-loop μ-loop (λ c. search laws) (λ c. search laws) (λ c. search laws) (λ c κs. search laws) (λ c. search laws) (λ c. search laws) (λ c. search laws) (λ c. search laws))
