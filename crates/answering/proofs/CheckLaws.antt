@@ -1,5 +1,5 @@
--- What the readers leave in words is what the check of a union asks for; and the numbers that they give, one after the other, come to the
--- first refusal of the list.
+-- Rules and question as they were read are what the members' check asks for; and the numbers that the readers give, one after the other,
+-- come to the first refusal of the list.
 use mathlib.Core.Path.{_≡_, refl, sym, ap, _∙_, subst}
 use mathlib.Core.Logic.{_↔_}
 use Prim.Native.Nat.{ℕ, _*_, _/_, _≤_, _<_}
@@ -30,63 +30,6 @@ use Rattle.read_union.specs.Members.{NarrowRows}
 use Rattle.rows.specs.Rows.{Rows, Row}
 use Rattle.answering.specs.Laws.Checking.{rules-stop, question-stops, question-passes}
 use Rattle.answering.specs.Demands.{sheetsOf, checkNumber, SoundAndAccepted, zero-means}
-
--- ---- the members of a union that doesn't meet 6
-
--- variables 0 to 31, and no atom twice
-abbrev SmallMember : Member → Type 0
-SmallMember m = ((v : ℕ) → var v ∈ terms (m .query) → v < 32) × Unrepeated (m .query .atoms)
-
-small-member : (p s : List ℕ) (arity : ℕ) → ¬ T (refuses6 p 16 arity s) → (m : Member) → m ∈ unionAsRead p 16 s → SmallMember m
-unfolding unionAsRead unionOf memberAsRead memberAt
-small-member p s arity not6 m k =
-    let (m′, k′, e) = Memᴰ·of-map (memberAsRead p) (unionOf 16 s) k in
-    let (j, l, e′) = record-at (memberAt 16 s) (memberCount s) m′ .0 k′ in
-    let ok = not6-iff p 16 arity s .0 not6 .3 j l in
-    let q = memberQuestion p 16 s j in
-    subst (λ (n : Member). SmallMember n) (ap (memberAsRead p) e′ ∙ e) (
-      variables-in-range 16 s (questionStart 16 s j) (ok .0) p,
-      not5-unrepeated q (λ t. ok .2 (refuses5-twice q .0 t)),
-    )
-
--- ---- refusals 6 to 11
-
-no-six : (b : Bool) → _≡_ {A = ℕ} 0 (pick b 6 0) → ¬ T b
-no-six true e t = omega arith
-no-six false e t = t
-
-six-decides : (b : Bool) (x number : ℕ) → number ≡ pick b 6 0 → (number ≡ 0 → ⊥) → number ≡ pick b 6 x
-six-decides true x number e h = e
-six-decides false x number e h = absurd (h e)
-
-module _ (p s : List ℕ) (arity number : ℕ) (e : number ≡ pick (refuses6 p 16 arity s) 6 0) where
-  pub union-refused : (x : ℕ) → (number ≡ 0 → ⊥) → number ≡ pick (refuses6 p 16 arity s) 6 x
-  union-refused x h = six-decides (refuses6 p 16 arity s) x number e h
-
-  module _ (zero : number ≡ 0) (table : List ℕ) (size : length table ≡ 8192) (n : ℕ)
-      (read : number ≡ 0 → (n ≡ memberCount s) × (1 ≤ n) × (n ≤ 512) × (unionIn table n ≡ unionAsRead p 16 s) × NarrowRows table n)
-    where
-      pub few-members : n ≤ 512
-      few-members = read zero .2
-
-      not6 : ¬ T (refuses6 p 16 arity s)
-      not6 = no-six (refuses6 p 16 arity s) (sym zero ∙ e)
-
-      row : (j : ℕ) → j < n → Row (drop (16 * j) table)
-      unfolding unionIn
-      row j l =
-          let narrow = read zero .4 j l in
-          let m : Member = memberOf (drop (16 * j) table) in
-          let small = small-member p s arity not6 m (mem-along (read zero .3) (record-at (λ i. memberOf (drop (16 * i) table)) n m .1 (j, l, refl))) in
-          record { few-terms = narrow .0; few-atoms = narrow .1; answer-words = narrow .2; variables = small .0; distinct = small .1 }
-
-      pub rows-filled : Rows table n
-      rows-filled = record { long = (let l = read zero .2 in omega arith); each = row }
-
-      pub union-checked : (rules : List Rule) (q : Query) (r : ℕ) → r ≡ numberOf (check rules q (unionIn table n))
-          → r ≡ pick (refuses6 p 16 arity s) 6 (numberOf (check rules q (unionAsRead p 16 s)))
-      union-checked rules q r f =
-          rw (is-false (refuses6 p 16 arity s) not6) (f ∙ ap (λ u. numberOf (check rules q u)) (read zero .3))
 
 -- ---- rules and question, as they were read
 
@@ -148,4 +91,4 @@ with-meaning rules question union r e =
     let means = zero-means rules question union in
     (e, (λ z. means .0 (sym e ∙ z), λ ok. e ∙ means .1 ok))
 
-pub ruleset laws = (needs, union-refused, few-members, rows-filled, union-checked, rules-within, question-small, rules-refused, question-refused, all-checked)
+pub ruleset laws = (needs, rules-within, question-small, rules-refused, question-refused, all-checked)

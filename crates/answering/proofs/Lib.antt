@@ -1,1 +1,5 @@
 pub mod CheckLaws
+pub mod MembersLaws
+pub mod DrawLaws
+pub mod EntryLaws
+pub mod ShowLaws

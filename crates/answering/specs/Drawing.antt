@@ -29,6 +29,10 @@ theAnswers union facts = answersOf (theFacts facts) (theUnion union)
 abbrev pub termsOf : List ℕ → ℕ
 termsOf question = length (theQuestion question .answers)
 
+-- 14: "The answer list is shorter than 2 × terms × answers bytes."
+abbrev pub bytesNeeded : List ℕ → List ℕ → List ℕ → ℕ
+bytesNeeded question union facts = tupleSize 16 (termsOf question) * length (theAnswers union facts)
+
 -- number, count and every byte of the list
 pub record Outcome : Type 0 where
   pub number : ℕ
@@ -59,13 +63,9 @@ module _ (rules question union facts : List ℕ) (room : ℕ) where
   abbrev pub allSheets : Sheets
   allSheets = record { rules = rules; question = question; union = union; facts = facts }
 
-  -- 14: "The answer list is shorter than 2 × terms × answers bytes."
-  abbrev pub bytesNeeded : ℕ
-  bytesNeeded = tupleSize 16 (termsOf question) * length (theAnswers union facts)
-
   -- "Checking a union uses 1 to 11, drawing answers all": the first of 1 to 13 that applies, by the one list of refusals, and else 14
   abbrev pub refusalToDraw : Option ℕ
-  refusalToDraw = orElse (refusalOf partners01 16 drawing allSheets) (guard (ltb room bytesNeeded) 14)
+  refusalToDraw = orElse (refusalOf partners01 16 drawing allSheets) (guard (ltb room (bytesNeeded question union facts)) 14)
 
   -- THE OUTCOME of a call: its number, its count and every byte of its list.
   unfoldable pub outcome : Outcome
@@ -75,7 +75,7 @@ module _ (rules question union facts : List ℕ) (room : ℕ) where
   -- ---- the promises on the number
 
   -- the number is that of the refusal
-  number-is : outcome .number ≡ numberOf refusalToDraw
+  pub number-is : outcome .number ≡ numberOf refusalToDraw
   unfolding outcome numberOf
   number-is = by-cases refusalToDraw
     where
@@ -88,19 +88,19 @@ module _ (rules question union facts : List ℕ) (room : ℕ) where
 
   -- 01's list whole, each condition in 01's words
   abbrev pub allConditions : List {1} (ℕ × Type 0)
-  allConditions = drawingConditions partners01 16 allSheets ++ ((14, room < bytesNeeded) ∷ [])
+  allConditions = drawingConditions partners01 16 allSheets ++ ((14, room < bytesNeeded question union facts) ∷ [])
 
   -- "The first entry whose condition holds decides, for the earlier ones not holding": 0 where none of 1 to 14 holds, and any other number
   -- is that of the first that holds.
   pub number-means : (n : ℕ) → 0 < n → (outcome .number ≡ n) ↔ First allConditions n
-  number-means n positive = Iff·trans (along n) (positive-iff allSheets room bytesNeeded n positive)
+  number-means n positive = Iff·trans (along n) (positive-iff allSheets room (bytesNeeded question union facts) n positive)
 
   pub none-means : (outcome .number ≡ 0) ↔ NoneHolds allConditions
-  none-means = Iff·trans (along 0) (none-iff allSheets room bytesNeeded)
+  none-means = Iff·trans (along 0) (none-iff allSheets room (bytesNeeded question union facts))
 
   -- Demand 1: not refused is exactly "a call with sound sheets, an accepted union and a long enough list".
-  pub zero-means : (outcome .number ≡ 0) ↔ (SoundAndAccepted rules question union × SoundFacts facts × (bytesNeeded ≤ room))
-  zero-means = Iff·trans (along 0) (zero-sound rules question union facts room bytesNeeded)
+  pub zero-means : (outcome .number ≡ 0) ↔ (SoundAndAccepted rules question union × SoundFacts facts × (bytesNeeded question union facts ≤ room))
+  zero-means = Iff·trans (along 0) (zero-sound rules question union facts room (bytesNeeded question union facts))
 
   -- ---- the promises on count and list
 
@@ -117,7 +117,7 @@ module _ (rules question union facts : List ℕ) (room : ℕ) where
   module _ (zero : outcome .number ≡ 0) where
     is-drawn : outcome ≡ outcomeBy room (theAnswers union facts) none
     unfolding outcome
-    is-drawn = ap (outcomeBy room (theAnswers union facts)) (zero-none allSheets room bytesNeeded .0 (along 0 .0 zero))
+    is-drawn = ap (outcomeBy room (theAnswers union facts)) (zero-none allSheets room (bytesNeeded question union facts) .0 (along 0 .0 zero))
 
     is-accepted : AcceptedFor rules question union
     is-accepted = zero-accepts rules question union .0 (accepted-means rules question union .1 (zero-means .0 zero .0))

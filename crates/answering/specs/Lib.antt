@@ -1,4 +1,6 @@
 -- The promises, and what they rest on.
 pub mod Demands
 pub mod Drawing
+pub mod Stages
+pub mod Showing
 pub mod Laws

@@ -1,22 +1,19 @@
--- The answer list's bytes: a tuple's bytes tell the tuple and keep the order of tuples, and in the list they stand at the tuple's place.
+-- The answer list's bytes: a tuple's bytes tell the tuple, and in the list they stand at the tuple's place.
 -- Objects are below 65,536, as 16 bits hold them.
 use mathlib.Core.Path.{_≡_, refl, sym, ap, ap₂, _∙_, subst}
-use mathlib.Core.Logic.{_⊎_, inl, inr, _↔_}
-use Prim.Native.Nat.{ℕ, zero, suc, _+_, _*_, _/_, _%_, _-_, _≤_, _<_}
+use mathlib.Core.Logic.{inl, inr, _↔_}
+use Prim.Native.Nat.{ℕ, zero, suc, _+_, _*_, _-_, _<_}
 use native.Mathlib.Nat.{mul-zero, mul-suc, not-suc-le-zero, le-of-suc-le-suc}
 use native.Mathlib.Omega.{arith}
-use mathlib.Core.Bool.{Bool, true, false}
-use mathlib.Core.List.{List, [], _∷_, _++_, map, flatMap, append-assoc, List·Memᴰ·tail}
-use lib.Dec.{T}
+use mathlib.Core.List.{List, [], _∷_, _++_, flatMap, append-assoc, List·Memᴰ·tail}
 use lib.ListN.{length, take, drop, replicate, length-append}
 use lib.Seq.{take-at, drop-at, drop-drop}
-use Rattle.theory.specs.Lists.{_∈_, At, pick}
-use Rattle.theory.specs.Evaluation.{before, insertTuple}
-use Rattle.theory.specs.Laws.Options.{same-test, three-ways, none≢some, some-inj}
+use Rattle.theory.specs.Lists.{_∈_, At}
+use Rattle.theory.specs.Laws.Options.{none≢some, some-inj}
 use Rattle.theory.specs.Laws.Lists.{here, at-mem, mem-at, at-lt, at-or-past}
 use Rattle.theory.specs.Laws.Ascending.{Ascending}
-use Rattle.theory.specs.Laws.Answers.{before-cons, Before}
-use Rattle.sheets.specs.Packing.{bytesOf, packRecords, All}
+use Rattle.theory.specs.Laws.Answers.{Before}
+use Rattle.sheets.specs.Packing.{packRecords, All}
 use Rattle.sheets.specs.AnswerList.{tupleSize, tupleBytes, listBytes}
 use Rattle.sheets.specs.Laws.PackingBytes.{stands-whole, length-records, recordsAt, records-read}
 
@@ -42,65 +39,6 @@ tuple-unique t u h k e =
     let c : length (packRecords 2 t) ≡ length (packRecords 2 u) = ap length e in
     let l : length t ≡ length u = omega arith in
     sym (read-again t h) ∙ ap₂ (λ s n. recordsAt s (λ i. 2 * i) 2 0 n) e l ∙ read-again u k
-
--- ---- the order of tuples is that of their bytes
-
--- two bytes, and what follows them
-two-bytes : (a b c d : ℕ) (xs ys : List ℕ)
-    → T (before (a ∷ b ∷ xs) (c ∷ d ∷ ys)) ↔ ((a < c) ⊎ ((a ≡ c) × ((b < d) ⊎ ((b ≡ d) × T (before xs ys)))))
-two-bytes a b c d xs ys = (
-  λ t. elim (before-cons a c (b ∷ xs) (d ∷ ys) .0 t) [ inl l ↦ inl l | inr (e, u) ↦ inr (e, before-cons b d xs ys .0 u) ],
-  λ w. before-cons a c (b ∷ xs) (d ∷ ys) .1 (elim w [ inl l ↦ inl l | inr (e, u) ↦ inr (e, before-cons b d xs ys .1 u) ]),
-)
-
--- two objects by their bytes
-object-bytes : (x y : ℕ) (xs ys xs′ ys′ : List ℕ) → x < 65536 → y < 65536 → (T (before xs′ ys′) ↔ T (before xs ys))
-    → T (before (x / 256 % 256 ∷ x % 256 ∷ xs′) (y / 256 % 256 ∷ y % 256 ∷ ys′)) ↔ T (before (x ∷ xs) (y ∷ ys))
-object-bytes x y xs ys xs′ ys′ h k same = (
-  λ t. before-cons x y xs ys .1 (elim (two-bytes (x / 256 % 256) (x % 256) (y / 256 % 256) (y % 256) xs′ ys′ .0 t) [
-    | inl l ↦ inl (omega arith)
-    | inr (e, inl l) ↦ inl (omega arith)
-    | inr (e, inr (f, u)) ↦ (let d : x ≡ y = omega arith in inr (d, same .0 u))
-  ]),
-  λ t. two-bytes (x / 256 % 256) (x % 256) (y / 256 % 256) (y % 256) xs′ ys′ .1 (elim (before-cons x y xs ys .0 t) [
-    | inl l ↦ elim (three-ways (x / 256 % 256) (y / 256 % 256)) [
-      | inl m ↦ inl m
-      | inr (inl e) ↦ (let m : x % 256 < y % 256 = omega arith in inr (e, inl m))
-      | inr (inr m) ↦ absurd (omega arith)
-    ]
-    | inr (e, u) ↦ inr (ap (λ n. n / 256 % 256) e, inr (ap (λ n. n % 256) e, same .1 u))
-  ]),
-)
-
-before-same : (t u : List ℕ) → InRange t → InRange u → T (before (tupleBytes 16 t) (tupleBytes 16 u)) ↔ T (before t u)
-unfolding tupleBytes packRecords bytesOf before
-before-same [] [] h k = (λ b. b, λ b. b)
-before-same [] (y ∷ ys) h k = (λ b. tt, λ b. tt)
-before-same (x ∷ xs) [] h k = (λ b. b, λ b. b)
-before-same (x ∷ xs) (y ∷ ys) h k =
-    object-bytes x y xs ys (tupleBytes 16 xs) (tupleBytes 16 ys) (h x here) (k y here)
-    (before-same xs ys (λ o m. h o (List·Memᴰ·tail m)) (λ o m. k o (List·Memᴰ·tail m)))
-
-pub before-bytes : (t u : List ℕ) → InRange t → InRange u → before (tupleBytes 16 t) (tupleBytes 16 u) ≡ before t u
-before-bytes t u h k = same-test (before (tupleBytes 16 t) (tupleBytes 16 u)) (before t u) (before-same t u h k)
-
--- bytes put into their place among bytes are a tuple put into its place among tuples
-pub insert-bytes : (t : List ℕ) (us : List (List ℕ)) → InRange t → ((u : List ℕ) → u ∈ us → InRange u)
-    → insertTuple (tupleBytes 16 t) (map (tupleBytes 16) us) ≡ map (tupleBytes 16) (insertTuple t us)
-unfolding insertTuple
-insert-bytes t [] h k = refl
-insert-bytes t (u ∷ us) h k =
-    let f : List ℕ → List ℕ = tupleBytes 16 in
-    let rest : insertTuple (f t) (map f us) ≡ map f (insertTuple t us) = insert-bytes t us h (λ v m. k v (List·Memᴰ·tail m)) in
-    ap₂ (λ b c. pick b (f t ∷ f u ∷ map f us) (pick c (f u ∷ insertTuple (f t) (map f us)) (f u ∷ map f us))) (before-bytes t u h (k u here)) (before-bytes u t (k u here) h)
-    ∙ ap (λ l. pick (before t u) (f t ∷ f u ∷ map f us) (pick (before u t) (f u ∷ l) (f u ∷ map f us))) rest
-    ∙ go (before t u) (before u t)
-  where
-    go : (b c : Bool) → pick b (map (tupleBytes 16) (t ∷ u ∷ us)) (pick c (map (tupleBytes 16) (u ∷ insertTuple t us)) (map (tupleBytes 16) (u ∷ us)))
-        ≡ map (tupleBytes 16) (pick b (t ∷ u ∷ us) (pick c (u ∷ insertTuple t us) (u ∷ us)))
-    go true c = refl
-    go false true = refl
-    go false false = refl
 
 -- ---- parts of one size, one after another
 

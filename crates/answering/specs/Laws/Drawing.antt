@@ -5,27 +5,30 @@ use Prim.Native.Nat.{ℕ, suc, _≤_, _<_}
 use native.Mathlib.Omega.{arith}
 use mathlib.Core.Bool.{Bool, true, false}
 use mathlib.Core.Option.{Option, none, some, orElse}
-use mathlib.Core.List.{List, [], _∷_, _++_, map, List·Memᴰ·tail}
+use mathlib.Core.List.{List, [], _∷_, _++_, flatMap, List·Memᴰ·tail}
 use lib.Dec.{T, ltb}
-use lib.ListN.{length, length-map}
+use lib.ListN.{length}
 use Rattle.theory.specs.Lists.{_∈_, At, Unrepeated, guard}
 use Rattle.theory.specs.Refusals.{firstRefusal, First, NoneHolds}
-use Rattle.theory.specs.Syntax.{Member, object, value}
-use Rattle.theory.specs.Chase.{FirstReader, SecondReader}
-use Rattle.theory.specs.Evaluation.{answersOf}
+use Rattle.theory.specs.Syntax.{Member, Fact}
+use Rattle.theory.specs.Chase.{SecondReader}
+use Rattle.theory.specs.Evaluation.{found, insertTuple, answersOf}
 use Rattle.theory.specs.Agreement.{readers-agree}
 use Rattle.theory.specs.Laws.Options.{none≢some}
-use Rattle.theory.specs.Laws.Lists.{here, mem-at, at-equal, dropAt, mem-dropAt}
+use Rattle.theory.specs.Laws.Lists.{here, flatMap-found, mem-at, at-equal, dropAt, mem-dropAt}
+use Rattle.theory.specs.Laws.Ascending.{inserted-mem}
+use Rattle.theory.specs.Laws.Matches.{found-length}
 use Rattle.theory.specs.Laws.Pigeonhole.{length-dropAt}
-use Rattle.theory.specs.Laws.Answers.{answers-iff}
+use Rattle.theory.specs.Laws.Answers.{Before, answers-iff, insertTuple-inserts}
 use Rattle.sheets.specs.Partners.{partners01}
 use Rattle.sheets.specs.Refusals.{Sheets, checking, drawing, onlyFacts, refusalOf, Sound, numberOf, factRefusals}
 use Rattle.sheets.specs.Laws.Tests.{ltb-tells, lt-or-le}
 use Rattle.sheets.specs.Laws.OneList.{number-zero, checking-first, facts-only, drawn, checked-accepted, drawingConditions, drawing-refused-iff, drawing-passed-iff}
+use Rattle.evaluation.specs.Registered.{registered}
 use Rattle.answering.specs.Demands.{theRules, theQuestion, theUnion, theFacts, sheetsOf, AcceptedFor, SoundFacts, SoundAndAccepted, zero-accepts, zero-means}
 use Rattle.answering.specs.Laws.Checking.{numbered}
 use Rattle.answering.specs.Laws.Conditions.{with-last, none-with-last}
-use Rattle.answering.specs.Laws.Registered.{facts-in-range, constants-in-range, found-in-range}
+use Rattle.answering.specs.Laws.Registered.{facts-in-range, constants-in-range}
 
 -- ---- one more refusal at the end of the list
 
@@ -65,11 +68,11 @@ module _ (sheets : Sheets) (room needed : ℕ) where
 -- ---- what is drawn
 
 module _ (rules question union facts : List ℕ) where
-  abbrev four : Sheets
+  abbrev pub four : Sheets
   four = record { rules = rules; question = question; union = union; facts = facts }
 
   -- checking takes no facts
-  checked-same : refusalOf partners01 16 checking four ≡ refusalOf partners01 16 checking (sheetsOf rules question union)
+  pub checked-same : refusalOf partners01 16 checking four ≡ refusalOf partners01 16 checking (sheetsOf rules question union)
   checked-same = checking-first partners01 16 four ∙ sym (checking-first partners01 16 (sheetsOf rules question union))
 
   facts-same : refusalOf partners01 16 onlyFacts (record { rules = []; question = []; union = []; facts = facts }) ≡ firstRefusal (factRefusals 16 facts)
@@ -102,11 +105,15 @@ module _ (rules question union facts : List ℕ) where
     -- every answer has objects that 16 bits hold, and as many as the question has answer terms
     pub answers-known : (t : List ℕ) → t ∈ answersOf (theFacts facts) (theUnion union)
         → ((o : ℕ) → o ∈ t → o < 65536) × (length t ≡ length (theQuestion question .answers))
+    unfolding answersOf
     answers-known t m =
+        let F : List Fact = theFacts facts in
+        let find : Member → List (List ℕ) = λ n. found F (n .query) in
         let sound = checked-accepted partners01 16 (sheetsOf rules question union) accepted .0 in
-        let (n, k, found) = answers-iff (theFacts facts) (theUnion union) (λ n k. sound n k .safe) t .0 m in (
-          found-in-range 65536 (theFacts facts) (facts-in-range partners01 facts) (n .query) (sound n k .safe) (constants-in-range partners01 union n k) t found,
-          sym (length-map t object) ∙ ap length (sym (found .sends)) ∙ length-map (n .query .answers) (value (found .match)) ∙ sound n k .arity-is,
+        let drawn-by = inserted-mem Before insertTuple insertTuple-inserts (flatMap find (theUnion union)) m in
+        let (n, k, f) = flatMap-found find (theUnion union) drawn-by in (
+          registered F (theUnion union) (facts-in-range partners01 facts) (constants-in-range partners01 union) .objects t drawn-by,
+          found-length F (n .query) t f ∙ sound n k .arity-is,
         )
 
     -- the answers are the second reader's

@@ -1,19 +1,15 @@
--- Whatever is found has objects that 16 bits hold: facts and answer terms come from 16-bit fields.
-use mathlib.Core.Path.{_≡_, refl, sym, ap, _∙_, subst}
+-- The objects of facts and of answer terms are numbers that 16 bits hold, for they come from 16-bit fields.
+use mathlib.Core.Path.{_≡_, sym, ap, _∙_, subst}
 use mathlib.Core.Logic.{inl, inr}
-use Prim.Native.Nat.{ℕ, zero, _/_, _%_, _^_, _<_}
+use Prim.Native.Nat.{ℕ, _/_, _%_, _^_, _<_}
 use native.Mathlib.Omega.{arith}
 use mathlib.Core.Bool.{Bool, true, false}
-use mathlib.Core.List.{List, [], map, List·Memᴰ·cases-cons, List·Memᴰ·not-nil, Memᴰ·map, Memᴰ·of-map}
+use mathlib.Core.List.{List, List·Memᴰ·cases-cons, List·Memᴰ·not-nil, Memᴰ·of-map}
 use lib.Dec.{eqb}
 use Rattle.theory.specs.Lists.{_∈_, pick}
-use Rattle.theory.specs.Syntax.{Term, var, const, Atom, concept, role, Query, Member, Fact, Thing, object, args, mapAtom, value}
-use Rattle.theory.specs.Chase.{Round, Answer}
-use Rattle.theory.specs.Union.{Safe}
-use Rattle.theory.specs.Laws.Lists.{mem-along}
-use Rattle.theory.specs.Laws.Syntax.{places-mem, map-args, args-map}
+use Rattle.theory.specs.Syntax.{var, const, concept, role, Member, Fact, args}
 use Rattle.words.specs.Records.{field, termOf, factOf}
-use Rattle.sheets.specs.Format.{factRecords, factsOf, answerRecords, queryAt, memberCount, memberAt, memberStart, unionOf}
+use Rattle.sheets.specs.Format.{factRecords, factsOf, answerRecords, queryAt, memberCount, memberAt, unionOf}
 use Rattle.sheets.specs.Partners.{atomAsRead, queryAsRead, memberAsRead}
 use Rattle.sheets.specs.Refusals.{factsAsRead, unionAsRead}
 use Rattle.sheets.specs.Laws.Tests.{record-at}
@@ -59,22 +55,3 @@ constants-in-range p s m k c n =
     let (j, l, e′) = record-at (memberAt 16 s) (memberCount s) m′ .0 k′ in
     let d : memberAsRead p (memberAt 16 s j) ≡ m = ap (memberAsRead p) e′ ∙ e in
     query-in-range p s _ c (subst (λ (x : Member). const c ∈ x .query .answers) (sym d) n)
-
--- ---- what is found
-
-module _ (bound : ℕ) (facts : List Fact) (small : (f : Fact) → f ∈ facts → (o : ℕ) → o ∈ args f → o < bound) where
-  module _ (q : Query) (safe : Safe q) (constants : (c : ℕ) → const c ∈ q .answers → c < bound) (tuple : List ℕ) (found : Answer (Round [] facts zero) q tuple) where
-    -- the object that an answer term goes to
-    object-of : (t : Term) → t ∈ q .answers → (o : ℕ) → value (found .match) t ≡ object o → o < bound
-    object-of (const c) m o e = let d : c ≡ o = cc in subst (λ n. n < bound) d (constants c m)
-    object-of (var v) m o e =
-        let (a, n, k) = places-mem (q .atoms) (safe v m) in
-        let (f, l, d) = found .holds a n in
-        let (o′, k′, e′) = args-map object f (subst (λ (b : Atom Thing). found .match v ∈ args b) d (map-args (value (found .match)) a k)) in
-        let same : o′ ≡ o = (let g : object o′ ≡ object o = e′ ∙ e in cc) in
-        subst (λ n. n < bound) same (small f l o′ k′)
-
-    pub found-in-range : (o : ℕ) → o ∈ tuple → o < bound
-    found-in-range o m =
-        let (t, n, e) = Memᴰ·of-map (value (found .match)) (q .answers) (mem-along (sym (found .sends)) (Memᴰ·map object m)) in
-        object-of t n o e

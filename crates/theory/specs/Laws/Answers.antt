@@ -83,7 +83,7 @@ before-total (x ∷ xs) (y ∷ ys) =
 abbrev pub Before : List ℕ → List ℕ → Type 0
 Before s t = T (before s t)
 
-insertTuple-inserts : Inserts Before insertTuple
+pub insertTuple-inserts : Inserts Before insertTuple
 unfolding insertTuple
 insertTuple-inserts = (
   λ t. refl,

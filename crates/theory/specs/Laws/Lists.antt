@@ -7,7 +7,7 @@ use native.Mathlib.Decide.{ℕ-discrete}
 use native.Mathlib.Omega.{arith}
 use mathlib.Core.Bool.{Bool, true, false, _||_, or-assoc}
 use mathlib.Core.Option.{Option, none, some}
-use mathlib.Core.List.{List, [], _∷_, _++_, map, map-map, map-id, foldr, flatMap, List·Memᴰ·head, List·Memᴰ·tail, List·Memᴰ·not-nil, List·Memᴰ·cases-cons, List·Memᴰ·eq-of-singleton, List·Memᴰ·append-cases, Memᴰ·append-left, Memᴰ·append-right, Memᴰ·cast}
+use mathlib.Core.List.{List, [], _∷_, _++_, append-assoc, map, map-map, map-id, foldr, flatMap, List·Memᴰ·head, List·Memᴰ·tail, List·Memᴰ·not-nil, List·Memᴰ·cases-cons, List·Memᴰ·eq-of-singleton, List·Memᴰ·append-cases, Memᴰ·append-left, Memᴰ·append-right, Memᴰ·cast}
 use lib.Dec.{T}
 use lib.ListN.{length, getElem?, getD, set}
 use Rattle.theory.specs.Lists.{_∈_, At, Unrepeated, pick, any, all, without, once, pairwise, firstSome, toList, isSome, numbers}
@@ -346,3 +346,15 @@ module _ {X Y : Type 0} where
   unfolding any flatMap
   any-flatMap p f [] = refl
   any-flatMap p f (x ∷ xs) = any-append p (f x) (flatMap f xs) ∙ ap (λ b. any p (f x) || b) (any-flatMap p f xs)
+
+-- ---- lists of lists
+
+pub flatMap-append : {X Y : Type 0} (f : X → List Y) (xs ys : List X) → flatMap f (xs ++ ys) ≡ flatMap f xs ++ flatMap f ys
+unfolding flatMap
+flatMap-append f [] ys = refl
+flatMap-append f (x ∷ xs) ys = ap (λ l. f x ++ l) (flatMap-append f xs ys) ∙ sym (append-assoc (f x) (flatMap f xs) (flatMap f ys))
+
+pub flatMap-flatMap : {X Y Z : Type 0} (g : Y → List Z) (f : X → List Y) (xs : List X) → flatMap g (flatMap f xs) ≡ flatMap (λ x. flatMap g (f x)) xs
+unfolding flatMap
+flatMap-flatMap g f [] = refl
+flatMap-flatMap g f (x ∷ xs) = flatMap-append g (f x) (flatMap f xs) ∙ ap (λ l. flatMap g (f x) ++ l) (flatMap-flatMap g f xs)

@@ -1,0 +1,12 @@
+use Rattle.answering.proofs.MembersLaws.{laws, not-zero}
+use Rattle.answering.proofs.members.read_members.Statement.{statement}
+use Rattle.answering.proofs.members.read_members.Tie as tie
+
+pub read-members-spec : {M : Type 1} → statement M
+read-members-spec =
+    tie.close
+    (tie.spec
+    (λ c κs. search laws)
+    (λ c. search laws) (λ c. (search laws, (search laws, not-zero _ (search laws))))
+    (λ c. search laws) (λ c κs. (search laws, search laws, search laws, search laws))
+    (λ c. search laws) (λ c. (search laws, (search laws, λ z. (search laws, search laws)))))
