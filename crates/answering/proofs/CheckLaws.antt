@@ -1,33 +1,28 @@
 -- Rules and question as they were read are what the members' check asks for; and the numbers that the readers give, one after the other,
 -- come to the first refusal of the list.
-use mathlib.Core.Path.{_≡_, refl, sym, ap, _∙_, subst}
+use mathlib.Core.Path.{_≡_, sym, ap, _∙_, subst}
 use mathlib.Core.Logic.{_↔_}
-use Prim.Native.Nat.{ℕ, _*_, _/_, _≤_, _<_}
+use Prim.Native.Nat.{ℕ, _/_, _≤_}
 use native.Mathlib.Omega.{arith}
 use mathlib.Core.Bool.{Bool, true, false}
-use mathlib.Core.Option.{Option, none, some}
-use mathlib.Core.List.{List, _∷_, Memᴰ·of-map}
+use mathlib.Core.Option.{none, some}
+use mathlib.Core.List.{List, _∷_}
 use lib.Dec.{T}
-use lib.ListN.{length, drop}
+use lib.ListN.{length}
 use borrow.Author.Needs.{needs}
-use Rattle.theory.specs.Lists.{_∈_, Unrepeated, pick, all}
+use Rattle.theory.specs.Lists.{_∈_, pick, all}
 use Rattle.theory.specs.Refusals.{firstRefusal}
-use Rattle.theory.specs.Syntax.{var, Rule, Query, Member, terms}
+use Rattle.theory.specs.Syntax.{var, terms}
 use Rattle.theory.specs.Union.{check}
-use Rattle.theory.specs.Laws.Options.{is-false, none≢some}
-use Rattle.theory.specs.Laws.Lists.{mem-along}
-use Rattle.words.specs.Words.{rulesIn, queryOf, Small, memberOf, unionIn}
+use Rattle.theory.specs.Laws.Options.{none≢some}
+use Rattle.words.specs.Words.{rulesIn, queryOf, Small}
 use Rattle.words.specs.declared.QueryWords.{QueryWords}
-use Rattle.sheets.specs.Format.{memberCount, memberAt, unionOf, termCount}
-use Rattle.sheets.specs.Partners.{partners01, memberAsRead}
+use Rattle.sheets.specs.Format.{termCount}
+use Rattle.sheets.specs.Partners.{partners01}
 use Rattle.sheets.specs.Refusals.{refuses3, refuses6, rulesAsRead, questionAsRead, unionAsRead, ruleRefusals, questionRefusals, numberOf}
-use Rattle.sheets.specs.Laws.Tests.{record-at}
-use Rattle.sheets.specs.Laws.QuestionRefusals.{not3-iff, refuses5-twice, not5-unrepeated, variables-in-range}
-use Rattle.sheets.specs.Laws.UnionRefusals.{not6-iff, questionStart, memberQuestion}
+use Rattle.sheets.specs.Laws.QuestionRefusals.{not3-iff, variables-in-range}
 use Rattle.sheets.specs.Laws.OneList.{first-positive}
 use Rattle.read_question.specs.QuestionWords.{ReadFrom}
-use Rattle.read_union.specs.Members.{NarrowRows}
-use Rattle.rows.specs.Rows.{Rows, Row}
 use Rattle.answering.specs.Laws.Checking.{rules-stop, question-stops, question-passes}
 use Rattle.answering.specs.Demands.{sheetsOf, checkNumber, SoundAndAccepted, zero-means}
 

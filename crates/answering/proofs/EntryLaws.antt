@@ -9,7 +9,7 @@ use mathlib.Core.List.{List}
 use lib.Dec.{T, eqb, ltb}
 use lib.ListN.{length, drop, replicate}
 use borrow.Author.Needs.{needs}
-use borrow.Author.Tests.{eq-eqb, ne-eqb}
+use borrow.Author.Tests.{ne-eqb}
 use Rattle.theory.specs.Lists.{pick, guard, all}
 use Rattle.theory.specs.Refusals.{firstRefusal}
 use Rattle.theory.specs.Union.{check}
@@ -19,16 +19,15 @@ use Rattle.theory.specs.Laws.Options.{T-eqb}
 use Rattle.theory.specs.Laws.Answers.{Before}
 use Rattle.words.specs.Words.{rulesIn, queryOf}
 use Rattle.words.specs.declared.QueryWords.{QueryWords}
-use Rattle.sheets.specs.Format.{termCount}
 use Rattle.sheets.specs.Partners.{partners01}
-use Rattle.sheets.specs.AnswerList.{tupleSize, listBytes}
-use Rattle.sheets.specs.Refusals.{Sheets, checking, drawing, refusalOf, refuses6, rulesAsRead, questionAsRead, unionAsRead, factsAsRead, ruleRefusals, questionRefusals, factRefusals, numberOf}
+use Rattle.sheets.specs.AnswerList.{tupleSize}
+use Rattle.sheets.specs.Refusals.{Sheets, checking, drawing, refusalOf, refuses6, rulesAsRead, unionAsRead, factsAsRead, ruleRefusals, questionRefusals, factRefusals, numberOf}
 use Rattle.sheets.specs.Laws.QuestionRefusals.{question-arity}
-use Rattle.sheets.specs.Laws.OneList.{first-positive, number-zero, number-stops, number-goes-on, drawing-first}
+use Rattle.sheets.specs.Laws.OneList.{number-zero, drawing-first}
 use Rattle.read_question.specs.QuestionWords.{ReadFrom}
 use Rattle.answering.specs.declared.Answers.{Answers}
-use Rattle.answering.specs.Demands.{theRules, theQuestion, theFacts, sheetsOf, checkNumber, SoundAndAccepted, SoundFacts}
-use Rattle.answering.specs.Drawing.{theAnswers, termsOf, bytesNeeded, outcome, refusalToDraw, Registered, StandsAt, Listed, number-is, zero-means, refused-means, count-means, list-means, both-readers, ascending, rest-zero}
+use Rattle.answering.specs.Demands.{theRules, theQuestion, theFacts, checkNumber, SoundAndAccepted, SoundFacts}
+use Rattle.answering.specs.Drawing.{theAnswers, termsOf, bytesNeeded, outcome, Registered, StandsAt, Listed, number-is, zero-means, fourteen-means, refused-means, count-means, list-means, both-readers, ascending, rest-zero}
 use Rattle.answering.specs.Stages.{otherwise, Gives}
 use Rattle.answering.specs.Laws.Drawing.{four, checked-same}
 use Rattle.answering.proofs.CheckLaws.{rules-refused, question-refused, all-checked}
@@ -113,23 +112,28 @@ module _ (rules question union facts : List ℕ) (room : ℕ) where
     pub with-outcome :
         ((r .number ≡ outcome rules question union facts room .number) × (r .count ≡ outcome rules question union facts room .count) × (list ≡ outcome rules question union facts room .list))
         × (((r .number ≡ 0) ↔ (SoundAndAccepted rules question union × SoundFacts facts × (bytesNeeded question union facts ≤ room)))
+        × (((r .number ≡ 14) ↔ (SoundAndAccepted rules question union × SoundFacts facts × (room < bytesNeeded question union facts)))
         × ((r .number ≡ 0 → (tuple : List ℕ) → Registered tuple → Listed list (r .count) (termsOf question) tuple ↔ SecondReader (theRules rules) (theQuestion question) (theFacts facts) tuple)
         × ((r .number ≡ 0 → (j k : ℕ) (t u : List ℕ) → Registered t → Registered u → j < k → k < r .count → StandsAt list (termsOf question) j t → StandsAt list (termsOf question) k u → Before t u)
         × ((r .number ≡ 0 → drop (tupleSize 16 (termsOf question) * r .count) list ≡ replicate (room - tupleSize 16 (termsOf question) * r .count) 0)
-        × ((r .number ≡ 0 → ⊥) → (r .count ≡ 0) × (list ≡ replicate room 0))))))
+        × ((r .number ≡ 0 → ⊥) → (r .count ≡ 0) × (list ≡ replicate room 0)))))))
     with-outcome =
         let (c, l) = same-both in
-        let means = zero-means rules question union facts room in (
+        let means = zero-means rules question union facts room in
+        let short = fourteen-means rules question union facts room in (
           (same-number, c, l),
           (
             (λ z. means .0 (to-zero z), λ ok. same-number ∙ means .1 ok),
             (
-              λ z tuple registered. rw (l, c) (both-readers rules question union facts room (to-zero z) tuple registered),
+              (λ e. short .0 (sym same-number ∙ e), λ ok. same-number ∙ short .1 ok),
               (
-                λ z j k t u. rw (l, c) (ascending rules question union facts room (to-zero z) j k t u),
+                λ z tuple registered. rw (l, c) (both-readers rules question union facts room (to-zero z) tuple registered),
                 (
-                  λ z. rw (l, c) (rest-zero rules question union facts room (to-zero z)),
-                  λ h. let m = refused-means rules question union facts room (λ k. h (same-number ∙ k)) in (c ∙ m .0, l ∙ m .1),
+                  λ z j k t u. rw (l, c) (ascending rules question union facts room (to-zero z) j k t u),
+                  (
+                    λ z. rw (l, c) (rest-zero rules question union facts room (to-zero z)),
+                    λ h. let m = refused-means rules question union facts room (λ k. h (same-number ∙ k)) in (c ∙ m .0, l ∙ m .1),
+                  ),
                 ),
               ),
             ),

@@ -1,6 +1,6 @@
 -- Showing a member: where its question begins, and that the part there is the member's.
-use mathlib.Core.Path.{_≡_, refl, sym, ap, _∙_, subst}
-use Prim.Native.Nat.{ℕ, zero, suc, _+_, _≤_, _<_}
+use mathlib.Core.Path.{_≡_, refl, sym, ap, _∙_}
+use Prim.Native.Nat.{ℕ, suc, _+_, _≤_, _<_}
 use native.Mathlib.Numerals.{add-one}
 use native.Mathlib.Omega.{arith}
 use mathlib.Core.Bool.{Bool, true, false}
@@ -10,13 +10,11 @@ use lib.Seq.{length-take-le}
 use borrow.Author.Needs.{needs}
 use mir.Syntax.{w64}
 use mir.Val.{Fits}
-use Rattle.theory.specs.Lists.{pick}
 use Rattle.sheets.specs.Format.{questionLength, memberStart}
 use Rattle.sheets.specs.Partners.{partners01}
 use Rattle.sheets.specs.Refusals.{memberPart}
 use Rattle.sheets.specs.Laws.UnionRefusals.{start-rises}
 use Rattle.read_union.proofs.MemberLaws.{shown-short, byte-within, part-ends}
-use Rattle.answering.specs.declared.Part.{Part}
 use Rattle.answering.specs.Showing.{thePart, hasMember, partStart}
 
 -- ---- the loop

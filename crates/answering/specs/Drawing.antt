@@ -12,14 +12,14 @@ use Rattle.theory.specs.Refusals.{First, NoneHolds}
 use Rattle.theory.specs.Chase.{SecondReader}
 use Rattle.theory.specs.Evaluation.{answersOf}
 use Rattle.theory.specs.Laws.Answers.{Before, before-irreflexive, answers-ascending}
-use Rattle.theory.specs.Laws.Ascending.{Ascending, ascending-unrepeated}
+use Rattle.theory.specs.Laws.Ascending.{ascending-unrepeated}
 use Rattle.sheets.specs.AnswerList.{tupleSize, tupleBytes, listBytes}
 use Rattle.sheets.specs.Partners.{partners01}
 use Rattle.sheets.specs.Refusals.{Sheets, drawing, refusalOf, numberOf}
 use Rattle.sheets.specs.Laws.OneList.{drawingConditions}
 use Rattle.answering.specs.Demands.{theRules, theQuestion, theUnion, theFacts, AcceptedFor, SoundFacts, SoundAndAccepted, zero-accepts, zero-means as accepted-means}
 use Rattle.answering.specs.Laws.AnswerBytes.{listed-iff, listed-ascending, listed-rest}
-use Rattle.answering.specs.Laws.Drawing.{positive-iff, zero-none, none-iff, zero-sound, answers-known, answers-second, same-count}
+use Rattle.answering.specs.Laws.Drawing.{positive-iff, zero-none, none-iff, zero-sound, fourteen-sound, answers-known, answers-second, same-count}
 
 -- "In lists, counts and refusals, 'answers' are what the first reader finds": ascending, each once.
 abbrev pub theAnswers : List ℕ → List ℕ → List (List ℕ)
@@ -101,6 +101,10 @@ module _ (rules question union facts : List ℕ) (room : ℕ) where
   -- Demand 1: not refused is exactly "a call with sound sheets, an accepted union and a long enough list".
   pub zero-means : (outcome .number ≡ 0) ↔ (SoundAndAccepted rules question union × SoundFacts facts × (bytesNeeded question union facts ≤ room))
   zero-means = Iff·trans (along 0) (zero-sound rules question union facts room (bytesNeeded question union facts))
+
+  -- 14 is the number exactly when all that is wrong is the length of the list.
+  pub fourteen-means : (outcome .number ≡ 14) ↔ (SoundAndAccepted rules question union × SoundFacts facts × (room < bytesNeeded question union facts))
+  fourteen-means = Iff·trans (along 14) (fourteen-sound rules question union facts room (bytesNeeded question union facts))
 
   -- ---- the promises on count and list
 

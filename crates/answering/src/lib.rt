@@ -65,6 +65,8 @@ pub fn answer(rules: &[u8], question: &[u8], union: &[u8], facts: &[u8], list: &
         × (now (list .exit) ≡ outcome (now (rules .entry)) (now (question .entry)) (now (union .entry)) (now (facts .entry)) (length (now (list .entry))) .list) ⌝ }
     ensures zero { λ r. ⌜ (r .number ≡ 0) ↔ (SoundAndAccepted (now (rules .entry)) (now (question .entry)) (now (union .entry)) × SoundFacts (now (facts .entry))
         × (bytesNeeded (now (question .entry)) (now (union .entry)) (now (facts .entry)) ≤ length (now (list .entry)))) ⌝ }
+    ensures short { λ r. ⌜ (r .number ≡ 14) ↔ (SoundAndAccepted (now (rules .entry)) (now (question .entry)) (now (union .entry)) × SoundFacts (now (facts .entry))
+        × (length (now (list .entry)) < bytesNeeded (now (question .entry)) (now (union .entry)) (now (facts .entry)))) ⌝ }
     ensures readers { λ r. ⌜ (r .number ≡ 0 → (tuple : List ℕ) → Registered tuple
         → Listed (now (list .exit)) (r .count) (termsOf (now (question .entry))) tuple ↔ SecondReader (theRules (now (rules .entry))) (theQuestion (now (question .entry))) (theFacts (now (facts .entry))) tuple) ⌝ }
     ensures ascending { λ r. ⌜ (r .number ≡ 0 → (j k : ℕ) (t u : List ℕ) → Registered t → Registered u → j < k → k < r .count
@@ -108,6 +110,8 @@ pub extern "C" fn takwishan_answer(
         × (now (list .exit) ≡ outcome (now (rules .entry)) (now (question .entry)) (now (union .entry)) (now (facts .entry)) (length (now (list .entry))) .list) ⌝ }
     ensures zero { λ r. ⌜ (r .number ≡ 0) ↔ (SoundAndAccepted (now (rules .entry)) (now (question .entry)) (now (union .entry)) × SoundFacts (now (facts .entry))
         × (bytesNeeded (now (question .entry)) (now (union .entry)) (now (facts .entry)) ≤ length (now (list .entry)))) ⌝ }
+    ensures short { λ r. ⌜ (r .number ≡ 14) ↔ (SoundAndAccepted (now (rules .entry)) (now (question .entry)) (now (union .entry)) × SoundFacts (now (facts .entry))
+        × (length (now (list .entry)) < bytesNeeded (now (question .entry)) (now (union .entry)) (now (facts .entry)))) ⌝ }
     ensures readers { λ r. ⌜ (r .number ≡ 0 → (tuple : List ℕ) → Registered tuple
         → Listed (now (list .exit)) (r .count) (termsOf (now (question .entry))) tuple ↔ SecondReader (theRules (now (rules .entry))) (theQuestion (now (question .entry))) (theFacts (now (facts .entry))) tuple) ⌝ }
     ensures ascending { λ r. ⌜ (r .number ≡ 0 → (j k : ℕ) (t u : List ℕ) → Registered t → Registered u → j < k → k < r .count

@@ -1,6 +1,6 @@
 -- The number that drawing gives, and the answers that it draws.
-use mathlib.Core.Path.{_≡_, refl, sym, ap, _∙_, subst}
-use mathlib.Core.Logic.{_⊎_, inl, inr, _↔_, Iff·trans}
+use mathlib.Core.Path.{_≡_, refl, sym, _∙_, subst}
+use mathlib.Core.Logic.{inl, inr, _↔_, Iff·trans}
 use Prim.Native.Nat.{ℕ, suc, _≤_, _<_}
 use native.Mathlib.Omega.{arith}
 use mathlib.Core.Bool.{Bool, true, false}
@@ -8,20 +8,20 @@ use mathlib.Core.Option.{Option, none, some, orElse}
 use mathlib.Core.List.{List, [], _∷_, _++_, flatMap, List·Memᴰ·tail}
 use lib.Dec.{T, ltb}
 use lib.ListN.{length}
-use Rattle.theory.specs.Lists.{_∈_, At, Unrepeated, guard}
+use Rattle.theory.specs.Lists.{_∈_, Unrepeated, pick, guard, all}
 use Rattle.theory.specs.Refusals.{firstRefusal, First, NoneHolds}
 use Rattle.theory.specs.Syntax.{Member, Fact}
 use Rattle.theory.specs.Chase.{SecondReader}
 use Rattle.theory.specs.Evaluation.{found, insertTuple, answersOf}
 use Rattle.theory.specs.Agreement.{readers-agree}
-use Rattle.theory.specs.Laws.Options.{none≢some}
+use Rattle.theory.specs.Laws.Options.{T-and, none≢some, some-inj}
 use Rattle.theory.specs.Laws.Lists.{here, flatMap-found, mem-at, at-equal, dropAt, mem-dropAt}
 use Rattle.theory.specs.Laws.Ascending.{inserted-mem}
 use Rattle.theory.specs.Laws.Matches.{found-length}
 use Rattle.theory.specs.Laws.Pigeonhole.{length-dropAt}
 use Rattle.theory.specs.Laws.Answers.{Before, answers-iff, insertTuple-inserts}
 use Rattle.sheets.specs.Partners.{partners01}
-use Rattle.sheets.specs.Refusals.{Sheets, checking, drawing, onlyFacts, refusalOf, Sound, numberOf, factRefusals}
+use Rattle.sheets.specs.Refusals.{Sheets, checking, drawing, onlyFacts, refusals, testsFor, refusalOf, Sound, numberOf, factRefusals}
 use Rattle.sheets.specs.Laws.Tests.{ltb-tells, lt-or-le}
 use Rattle.sheets.specs.Laws.OneList.{number-zero, checking-first, facts-only, drawn, checked-accepted, drawingConditions, drawing-refused-iff, drawing-passed-iff}
 use Rattle.evaluation.specs.Registered.{registered}
@@ -45,6 +45,23 @@ both-none (some m) b n = (λ e. absurd (none≢some (sym e)), λ h. h .0)
 both-none none true n = (λ e. absurd (none≢some (sym e)), λ h. absurd (h .1 tt))
 both-none none false n = (λ e. (refl, λ t. t), λ h. refl)
 
+only-last : (o : Option ℕ) (b : Bool) (n : ℕ) → ¬ (o ≡ some n) → (orElse o (guard b n) ≡ some n) ↔ ((o ≡ none) × T b)
+unfolding orElse
+only-last (some m) b n h = (λ e. absurd (h e), λ k. absurd (none≢some (sym (k .0))))
+only-last none true n h = (λ e. (refl, tt), λ k. refl)
+only-last none false n h = (λ e. absurd (none≢some e), λ k. absurd (k .1))
+
+-- no test has so high a number
+no-such : (bound : ℕ) (tests : List (ℕ × Bool)) → T (all (λ e. ltb (e .0) bound) tests) → ¬ (firstRefusal tests ≡ some bound)
+unfolding all firstRefusal
+no-such bound [] h d = none≢some d
+no-such bound (e ∷ es) h d =
+    let parts = T-and (ltb (e .0) bound) (all (λ e. ltb (e .0) bound) es) .0 h in
+    elim (e .1) as (λ b. pick b (some (e .0)) (firstRefusal es) ≡ some bound → ⊥) [
+      | true ↦ (λ k. let l = ltb-tells (e .0) bound .pass .0 (parts .0) in let m = some-inj k in omega arith)
+      | false ↦ no-such bound es (parts .1)
+    ] d
+
 module _ (sheets : Sheets) (room needed : ℕ) where
   -- 1 to 13, and then 14
   abbrev pub refusal : Option ℕ
@@ -64,6 +81,13 @@ module _ (sheets : Sheets) (room needed : ℕ) where
       Iff·trans zero-none
       (none-with-last (drawingConditions partners01 16 sheets) (refusalOf partners01 16 drawing sheets) (drawing-refused-iff partners01 16 sheets) (drawing-passed-iff partners01 16 sheets)
       14 (ltb room needed) (room < needed) (ltb-tells room needed .pass))
+
+  pub fourteen-iff : (numberOf refusal ≡ 14) ↔ (Sound partners01 16 drawing sheets × (room < needed))
+  unfolding refusalOf refusals testsFor all
+  fourteen-iff =
+      let last = only-last (refusalOf partners01 16 drawing sheets) (ltb room needed) 14 (no-such 14 (testsFor partners01 16 drawing sheets (refusals partners01 16)) tt) in
+      let c = ltb-tells room needed .pass in
+      Iff·trans (numbered refusal 14 (omega arith)) (Iff·trans last (λ k. (k .0, c .0 (k .1)), λ k. (k .0, c .1 (k .1))))
 
 -- ---- what is drawn
 
@@ -86,20 +110,27 @@ module _ (rules question union facts : List ℕ) where
         λ k. d .1 (checked-same ∙ k .0, sym facts-same ∙ k .1),
       )
 
+  -- in the words of demand 2, and of 01 for the facts
+  all-sound : Sound partners01 16 drawing four ↔ (SoundAndAccepted rules question union × SoundFacts facts)
+  all-sound =
+      let s = Iff·trans (zero-accepts rules question union .1, zero-accepts rules question union .0) (zero-means rules question union) in
+      Iff·trans drawing-sound (λ k. (s .0 (k .0), k .1), λ k. (s .1 (k .0), k .1))
+
   pub zero-sound : (room needed : ℕ) → (numberOf (refusal four room needed) ≡ 0) ↔ (SoundAndAccepted rules question union × SoundFacts facts × (needed ≤ room))
   zero-sound room needed =
-      let a = zero-none four room needed in
       let b = both-none (refusalOf partners01 16 drawing four) (ltb room needed) 14 in
       let c = ltb-tells room needed .pass in
-      let s = Iff·trans (zero-accepts rules question union .1, zero-accepts rules question union .0) (zero-means rules question union) in (
-        λ e. let k = b .0 (a .0 e) in
-            let d = drawing-sound .0 (k .0) in
-            (s .0 (d .0), d .1, not-less (k .1)),
-        λ k. a .1 (b .1 (drawing-sound .1 (s .1 (k .0), k .1), λ t. (let l = c .0 t in let m = k .2 in omega arith))),
+      Iff·trans (zero-none four room needed) (
+        λ e. let k = b .0 e in let d = all-sound .0 (k .0) in (d .0, d .1, not-less (k .1)),
+        λ k. b .1 (all-sound .1 (k .0, k .1), λ t. (let l = c .0 t in let m = k .2 in omega arith)),
       )
     where
       not-less : ¬ T (ltb room needed) → needed ≤ room
       not-less h = elim (lt-or-le room needed) [ inl l ↦ absurd (h (ltb-tells room needed .pass .1 l)) | inr l ↦ l ]
+
+  pub fourteen-sound : (room needed : ℕ) → (numberOf (refusal four room needed) ≡ 14) ↔ (SoundAndAccepted rules question union × SoundFacts facts × (room < needed))
+  fourteen-sound room needed =
+      Iff·trans (fourteen-iff four room needed) (λ k. let d = all-sound .0 (k .0) in (d .0, d .1, k .1), λ k. (all-sound .1 (k .0, k .1), k .2))
 
   module _ (accepted : AcceptedFor rules question union) where
     -- every answer has objects that 16 bits hold, and as many as the question has answer terms

@@ -1,0 +1,19 @@
+//! A second implementation of the register desk, written from its paper alone, and what is needed to compare it with the library.
+
+pub mod alike;
+pub mod cards;
+pub mod chance;
+pub mod chase;
+pub mod damage;
+pub mod damage_bytes;
+pub mod library;
+pub mod limits;
+pub mod make;
+pub mod matches;
+pub mod refusals;
+pub mod rewrite;
+pub mod sheets;
+pub mod write;
+
+#[cfg(test)]
+mod vectors;

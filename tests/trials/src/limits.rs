@@ -1,0 +1,97 @@
+//! Sheets at the limits: the largest union, as many rules and facts as there may be, atoms that all look alike.
+
+use crate::chance::Chance;
+use crate::make::{draft, dressed, names, rule, some_facts, union};
+use crate::sheets::{Atom, Description, Question, Rule, Term, MOST_MEMBERS};
+use crate::write::Draft;
+
+/// Eight concepts of one variable, each reached from others: 2 x 2 x 2 x 2 x 2 x 2 x 2 x 4 = 512 members, the most there may be.
+pub fn widest(chance: &mut Chance) -> Draft {
+    let concept = Description::Concept;
+    let mut rules: Vec<Rule> = (0..8).map(|a| Rule::Bears(concept(100 + a), concept(a))).collect();
+    rules.push(Rule::Bears(concept(200), concept(7)));
+    rules.push(Rule::Bears(concept(300), concept(7)));
+    let variable = Term::Variable(chance.below(32) as u8);
+    let question = Question {
+        answers: vec![variable],
+        atoms: (0..8).map(|a| Atom::Concept(a, variable)).collect(),
+    };
+    let facts = (0..8)
+        .map(|a| Atom::Concept(if chance.one_in(2) { a } else { 100 + a }, 9))
+        .collect();
+    let members = union(&question, &rules, MOST_MEMBERS, chance).expect("512 members and no more");
+    Draft {
+        rules,
+        question,
+        members,
+        facts,
+    }
+}
+
+/// A question whose atoms all look alike: edges of one role apart from each other, or in one or two rings.
+pub fn look_alike(chance: &mut Chance) -> Draft {
+    loop {
+        let names = names(chance);
+        let role = chance.of(&names.roles);
+        let many = chance.from(2, 8) as u8;
+        let ring = chance.from(1, many as usize) as u8;
+        let apart = chance.one_in(2);
+        let next = |x: u8| match x {
+            _ if apart => x + 16,
+            _ if x + 1 == ring => 0,
+            _ if x + 1 == many => ring,
+            _ => x + 1,
+        };
+        let atoms = (0..many)
+            .map(|x| Atom::Role(role, Term::Variable(x), Term::Variable(next(x))))
+            .collect();
+        let question = dressed(Question { answers: vec![], atoms }, chance);
+        let rules: Vec<Rule> = (0..chance.below(3)).map(|_| rule(&names, chance)).collect();
+        if let Some(members) = union(&question, &rules, MOST_MEMBERS, chance) {
+            let facts = some_facts(&names, &members, chance);
+            return Draft {
+                rules,
+                question,
+                members,
+                facts,
+            };
+        }
+    }
+}
+
+/// As many rules as there may be: those of a small draft among others that change nothing.
+pub fn most_rules(chance: &mut Chance) -> Draft {
+    let mut draft = draft(chance);
+    while draft.rules.len() < 512 {
+        let idle = (3000 + draft.rules.len()) as u16;
+        draft.rules.push(Rule::Bears(
+            Description::Concept(idle),
+            Description::Concept(idle + 512),
+        ));
+    }
+    draft
+}
+
+/// As many facts as there may be, most of them repeated, with a question of one or two atoms.
+pub fn most_facts(chance: &mut Chance) -> Draft {
+    let mut draft = loop {
+        let draft = draft(chance);
+        if draft.question.atoms.len() <= 2 && !draft.facts.is_empty() {
+            break draft;
+        }
+    };
+    while draft.facts.len() < 10_000 {
+        let fact = chance.of(&draft.facts);
+        let object = if chance.one_in(200) {
+            chance.from(0, 65535) as u16
+        } else {
+            fact.terms().next().unwrap_or(0)
+        };
+        draft.facts.push(match fact {
+            Atom::Concept(a, _) => Atom::Concept(a, object),
+            Atom::Role(p, _, u) => Atom::Role(p, object, u),
+        });
+    }
+    chance.shuffle(&mut draft.facts);
+    draft
+}

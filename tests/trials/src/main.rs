@@ -1,0 +1,94 @@
+//! Compares the library with the second implementation on sheets by chance, sound and damaged. Fails if they differ anywhere, or
+//! if too few of the cases were of the kinds that matter. Arguments: seed and number of cases.
+
+mod tally;
+
+use std::process::ExitCode;
+use tally::Tally;
+use trials::chance::Chance;
+use trials::refusals::Sheets;
+use trials::write::Draft;
+use trials::{cards, damage, damage_bytes, limits, make};
+
+const SEED: u64 = 20_070_713;
+const CASES: u64 = 24_000;
+/// Differences that are printed before the run is given up.
+const MOST_DIFFERENCES: usize = 10;
+
+/// A draft of the usual kind, at times one that reaches a limit.
+fn draft(case: u64, chance: &mut Chance) -> Draft {
+    match (case % 2_000, case % 50) {
+        (501, _) => limits::widest(chance),
+        (1_001, _) => limits::most_rules(chance),
+        (1_501, _) => limits::most_facts(chance),
+        (_, 0) => limits::look_alike(chance),
+        _ => make::draft(chance),
+    }
+}
+
+/// Sheets of one case: as they are made, or with damage aimed at up to three refusals.
+fn sheets_of(case: u64, chance: &mut Chance) -> Sheets {
+    let mut draft = draft(case, chance);
+    let wounds = chance.weighed(&[40, 42, 13, 5]);
+    let mut later = Vec::new();
+    for _ in 0..wounds {
+        let aim = if chance.one_in(3) {
+            chance.from(7, 11)
+        } else {
+            chance.from(0, 13)
+        } as u32;
+        if !damage::draft(aim, &mut draft, chance) {
+            later.push(aim);
+        }
+    }
+    let mut sheets = draft.sheets(chance);
+    for aim in later {
+        damage_bytes::bytes(aim, &mut sheets, chance);
+    }
+    sheets
+}
+
+fn run(seed: u64, cases: u64) -> bool {
+    let mut tally = Tally::default();
+    let mut chance = Chance::new(seed);
+    for card in cards::cards() {
+        tally.compare_check(card.name, &card.sheets);
+        tally.compare_answer(card.name, &card.sheets, &card.expected, &mut chance);
+        tally.compare_members(card.name, &card.sheets, &mut chance);
+    }
+    println!("seed {seed}, {cases} cases");
+    for case in 0..cases {
+        // each case has a seed of its own, so that one can be looked at alone
+        let mut chance = Chance::new(seed.wrapping_mul(1_000_003).wrapping_add(case));
+        let sheets = sheets_of(case, &mut chance);
+        tally.compare(&format!("case {case}"), &sheets, &mut chance);
+        if tally.differences >= MOST_DIFFERENCES {
+            println!("given up after {} cases", case + 1);
+            break;
+        }
+    }
+    tally.told()
+}
+
+fn main() -> ExitCode {
+    let mut arguments = std::env::args().skip(1).map(|word| word.parse::<u64>());
+    let number = |given: Option<Result<u64, _>>, usual| match given {
+        None => Ok(usual),
+        Some(result) => result.map_err(|_: std::num::ParseIntError| ()),
+    };
+    let (Ok(seed), Ok(cases), None) = (
+        number(arguments.next(), SEED),
+        number(arguments.next(), CASES),
+        arguments.next(),
+    ) else {
+        eprintln!("usage: trials [SEED [CASES]]");
+        return ExitCode::from(2);
+    };
+    match run(seed, cases) {
+        true => ExitCode::SUCCESS,
+        false => {
+            eprintln!("trials: a difference, or too few cases of a kind");
+            ExitCode::FAILURE
+        }
+    }
+}

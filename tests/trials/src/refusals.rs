@@ -1,0 +1,210 @@
+//! What the desk turns back, judged on the bytes of the sheets, and what it hands out otherwise. The answers expected come from
+//! rules, facts and question by rounds alone, never from the union.
+
+use crate::alike::{alike, Classes};
+use crate::chase::Held;
+use crate::rewrite;
+use crate::sheets::{self, Fact, Member, Question, Rule};
+use std::collections::BTreeSet;
+
+#[derive(Clone, Debug, Default, PartialEq, Eq)]
+pub struct Sheets {
+    pub rules: Vec<u8>,
+    pub question: Vec<u8>,
+    pub union: Vec<u8>,
+    pub facts: Vec<u8>,
+}
+
+/// Sheets that meet none of 1 to 11, as read.
+pub struct Accepted {
+    pub rules: Vec<Rule>,
+    pub question: Question,
+    pub members: Vec<Member>,
+}
+
+/// Refusal 7's condition.
+fn member_0_differs(question: &Question, members: &[Member]) -> bool {
+    members[0].step != rewrite::QUESTION_ITSELF || members[0].question != *question
+}
+
+/// Refusals 8 and 9: all of 8 before any of 9. A step is applied to its parent as written in the sheet.
+fn steps_hold(rules: &[Rule], members: &[Member]) -> Result<(), u32> {
+    let mut results = Vec::new();
+    for (index, member) in members.iter().enumerate().skip(1) {
+        let parent = member.step.parent as usize;
+        if parent >= index {
+            return Err(8);
+        }
+        results.push(rewrite::result(member.step, &members[parent].question, rules).ok_or(8u32)?);
+    }
+    let led_there = |(result, member): (&Question, &Member)| alike(result, &member.question);
+    match results.iter().zip(&members[1..]).all(led_there) {
+        true => Ok(()),
+        false => Err(9),
+    }
+}
+
+/// Refusals 10 and 11.
+fn closed(rules: &[Rule], members: &[Member]) -> Result<(), u32> {
+    let mut classes = Classes::default();
+    for (index, member) in members.iter().enumerate() {
+        if classes.find(&member.question).is_some() {
+            return Err(10);
+        }
+        classes.put(index, member.question.clone());
+    }
+    for (index, member) in members.iter().enumerate() {
+        let steps = rewrite::steps(index, &member.question, rules, true);
+        if steps.iter().any(|(_, result)| classes.find(result).is_none()) {
+            return Err(11);
+        }
+    }
+    Ok(())
+}
+
+/// Checking a union: refusals 1 to 11.
+pub fn check(sheets: &Sheets) -> Result<Accepted, u32> {
+    let rules = sheets::rules(&sheets.rules)?;
+    let question = sheets::question(&sheets.question)?;
+    let members = sheets::union(&sheets.union, question.answers.len())?;
+    if member_0_differs(&question, &members) {
+        return Err(7);
+    }
+    steps_hold(&rules, &members)?;
+    closed(&rules, &members)?;
+    Ok(Accepted {
+        rules,
+        question,
+        members,
+    })
+}
+
+/// Every number of 1 to 13 whose condition holds, each looked at for itself as far as the sheets can be read; the first is what
+/// the call returns. For counting cases in which an earlier refusal hides a later one, and as a test of `check`.
+pub fn conditions(sheets: &Sheets) -> Vec<u32> {
+    let rules = sheets::rules(&sheets.rules);
+    let question = sheets::question(&sheets.question);
+    let facts = sheets::facts(&sheets.facts);
+    let alone = [rules.as_ref().err(), question.as_ref().err(), facts.as_ref().err()];
+    let mut all: Vec<u32> = alone.into_iter().flatten().copied().collect();
+    let Ok(question) = question else {
+        return all;
+    };
+    let Ok(members) = sheets::union(&sheets.union, question.answers.len()) else {
+        all.push(6);
+        all.sort();
+        return all;
+    };
+    if member_0_differs(&question, &members) {
+        all.push(7);
+    }
+    let is_alike = |i: usize| {
+        members[..i]
+            .iter()
+            .any(|earlier| alike(&earlier.question, &members[i].question))
+    };
+    if (0..members.len()).any(is_alike) {
+        all.push(10);
+    }
+    if let Ok(rules) = rules {
+        all.extend(step_conditions(&rules, &members));
+    }
+    all.sort();
+    all
+}
+
+/// Which of 8, 9 and 11 hold.
+fn step_conditions(rules: &[Rule], members: &[Member]) -> Vec<u32> {
+    let result = |(index, member): (usize, &Member)| {
+        let parent = members[..index].get(member.step.parent as usize)?;
+        rewrite::result(member.step, &parent.question, rules)
+    };
+    let later = || members.iter().enumerate().skip(1);
+    let mut classes = Classes::default();
+    for (index, member) in members.iter().enumerate() {
+        classes.put(index, member.question.clone());
+    }
+    let leads_out = |member: &Member| {
+        let steps = rewrite::steps(0, &member.question, rules, true);
+        steps.iter().any(|(_, result)| classes.find(result).is_none())
+    };
+    let mut all = Vec::new();
+    if later().any(|one| result(one).is_none()) {
+        all.push(8);
+    }
+    if later().any(|one| result(one).is_some_and(|result| !alike(&result, &one.1.question))) {
+        all.push(9);
+    }
+    if members.iter().any(leads_out) {
+        all.push(11);
+    }
+    all
+}
+
+/// What drawing answers leads to, but for the list's length.
+pub struct Drawn {
+    pub accepted: Accepted,
+    pub facts: Vec<Fact>,
+    pub answers: BTreeSet<Vec<u16>>,
+    pub never_ends: bool,
+}
+
+/// Refusals 1 to 13, then the answers by rounds; `Ok(None)` if these take more than `most` things.
+pub fn draw(sheets: &Sheets, most: usize) -> Result<Option<Drawn>, u32> {
+    let accepted = check(sheets)?;
+    let facts = sheets::facts(&sheets.facts)?;
+    let atoms = accepted.question.atoms.len();
+    Ok(Held::rounds(&accepted.rules, &facts, atoms, most).map(|held| Drawn {
+        answers: held.answers(&accepted.question),
+        never_ends: held.never_end(&accepted.rules),
+        accepted,
+        facts,
+    }))
+}
+
+#[derive(Clone, Debug, PartialEq, Eq)]
+pub struct Outcome {
+    pub number: u32,
+    pub count: u64,
+    pub list: Vec<u8>,
+}
+
+pub fn refused(number: u32, length: usize) -> Outcome {
+    Outcome {
+        number,
+        count: 0,
+        list: vec![0; length],
+    }
+}
+
+impl Drawn {
+    /// Bytes that the list must have.
+    pub fn needed(&self) -> usize {
+        2 * self.accepted.question.answers.len() * self.answers.len()
+    }
+
+    /// Number, count and all bytes of a list of this length: refusal 14, or the answers ascending and zeros after them.
+    pub fn outcome(&self, length: usize) -> Outcome {
+        if length < self.needed() {
+            return refused(14, length);
+        }
+        let mut list: Vec<u8> = self
+            .answers
+            .iter()
+            .flatten()
+            .flat_map(|object| object.to_be_bytes())
+            .collect();
+        list.resize(length, 0);
+        Outcome {
+            number: 0,
+            count: self.answers.len() as u64,
+            list,
+        }
+    }
+
+    /// What the first reader finds with these questions: the tuples that are answers of one of them in round 0.
+    pub fn from_facts<'a>(&self, questions: impl Iterator<Item = &'a Question>) -> BTreeSet<Vec<u16>> {
+        let held = Held::facts(&self.facts);
+        questions.flat_map(|question| held.answers(question)).collect()
+    }
+}

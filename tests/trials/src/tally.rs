@@ -1,0 +1,243 @@
+//! Calls the library and compares what it does with what the second implementation expects; counts what kinds of cases were met.
+
+use trials::chance::Chance;
+use trials::refusals::{self, check, draw, Drawn, Outcome, Sheets};
+use trials::{library, rewrite, sheets};
+
+/// Cases whose rounds take more things than this are set aside.
+const MOST_THINGS: usize = 3_000;
+
+#[derive(Default)]
+pub struct Tally {
+    pub cases: u64,
+    calls: u64,
+    set_aside: u64,
+    accepted: u64,
+    met: [u64; 15],
+    /// How often this number decided while a later condition held too.
+    hid: [u64; 15],
+    beyond_member_0: u64,
+    never_end: u64,
+    need_merge: u64,
+    most_members: usize,
+    pub differences: usize,
+}
+
+fn hex(bytes: &[u8]) -> String {
+    bytes.iter().map(|byte| format!("{byte:02x}")).collect()
+}
+
+impl Tally {
+    /// A difference, loudly, with the sheets.
+    fn differ(&mut self, name: &str, sheets: &Sheets, what: &str, expected: &str, got: &str) {
+        self.differences += 1;
+        println!("DIFFERENCE in {name}, {what}: expected {expected}, got {got}");
+        println!("  rules    {}", hex(&sheets.rules));
+        println!("  question {}", hex(&sheets.question));
+        println!("  union    {}", hex(&sheets.union));
+        println!("  facts    {}", hex(&sheets.facts));
+    }
+
+    pub fn compare_check(&mut self, name: &str, sheets: &Sheets) {
+        let expected = check(sheets).err().unwrap_or(0);
+        let got = library::check(sheets);
+        self.calls += 1;
+        if got != expected {
+            self.differ(name, sheets, "check", &expected.to_string(), &got.to_string());
+        }
+    }
+
+    /// Number, count and all bytes of a list that was full of other bytes, and nothing written beside it.
+    pub fn compare_answer(&mut self, name: &str, sheets: &Sheets, expected: &Outcome, chance: &mut Chance) {
+        const BESIDE: usize = 24;
+        let length = expected.list.len();
+        let before: Vec<u8> = (0..length + 2 * BESIDE).map(|_| chance.from(1, 255) as u8).collect();
+        let mut lent = before.clone();
+        let (number, count) = library::answer(sheets, &mut lent[BESIDE..BESIDE + length]);
+        self.calls += 1;
+        let got = Outcome {
+            number,
+            count,
+            list: lent[BESIDE..BESIDE + length].to_vec(),
+        };
+        if got != *expected {
+            let told = |o: &Outcome| format!("number {}, count {}, list {}", o.number, o.count, hex(&o.list));
+            self.differ(
+                name,
+                sheets,
+                &format!("answer, list of {length}"),
+                &told(expected),
+                &told(&got),
+            );
+        }
+        let beside = |all: &[u8]| (all[..BESIDE].to_vec(), all[BESIDE + length..].to_vec());
+        if beside(&lent) != beside(&before) {
+            self.differ(
+                name,
+                sheets,
+                &format!("answer, list of {length}"),
+                "nothing written beside it",
+                "other bytes",
+            );
+        }
+    }
+
+    /// The part shown of every member, and of some that do not exist.
+    pub fn compare_members(&mut self, name: &str, sheets: &Sheets, chance: &mut Chance) {
+        let count = sheets
+            .union
+            .iter()
+            .take(2)
+            .fold(0, |n, &byte| n * 256 + usize::from(byte));
+        let mut asked: Vec<usize> = (0..count.min(12) + 2).collect();
+        asked.extend([count.saturating_sub(1), count, count + 1, chance.below(count + 1)]);
+        asked.extend([511, 512, 65_535, 65_536, 1 << 32, usize::MAX]);
+        for m in asked {
+            let expected = sheets::shown(&sheets.union, m);
+            let (start, length) = library::member(&sheets.union, m);
+            self.calls += 1;
+            let got = (length != 0).then_some((start, length));
+            if got != expected {
+                self.differ(
+                    name,
+                    sheets,
+                    &format!("member {m}"),
+                    &format!("{expected:?}"),
+                    &format!("{got:?}"),
+                );
+            }
+        }
+    }
+
+    /// What kind of case an accepted one is, by the second implementation alone.
+    fn count_kinds(&mut self, name: &str, sheets: &Sheets, drawn: &Drawn) {
+        let accepted = &drawn.accepted;
+        self.accepted += 1;
+        self.most_members = self.most_members.max(accepted.members.len());
+        self.never_end += u64::from(drawn.never_ends);
+        let by_union = drawn.from_facts(accepted.members.iter().map(|member| &member.question));
+        if by_union != drawn.answers {
+            let told = |tuples| format!("{tuples:?}");
+            self.differ(
+                name,
+                sheets,
+                "the two readers here",
+                &told(&drawn.answers),
+                &told(&by_union),
+            );
+        }
+        let by_member_0 = drawn.from_facts(std::iter::once(&accepted.question));
+        self.beyond_member_0 += u64::from(by_member_0 != drawn.answers);
+        if accepted.members.iter().any(|member| member.step.kind == 2) {
+            if let Some(unmerged) = rewrite::plain_closure(&accepted.question, &accepted.rules, false, 2_000) {
+                let found = drawn.from_facts(unmerged.iter().map(|(_, question)| question));
+                self.need_merge += u64::from(found != drawn.answers);
+            }
+        }
+    }
+
+    fn count_hidden(&mut self, name: &str, sheets: &Sheets, number: u32) {
+        let conditions = refusals::conditions(sheets);
+        self.hid[number as usize] += u64::from(conditions.len() > 1);
+        if conditions.first() != Some(&number) {
+            self.differ(
+                name,
+                sheets,
+                "the conditions here",
+                &number.to_string(),
+                &format!("{conditions:?}"),
+            );
+        }
+    }
+
+    pub fn compare(&mut self, name: &str, sheets: &Sheets, chance: &mut Chance) {
+        self.cases += 1;
+        self.compare_check(name, sheets);
+        self.compare_members(name, sheets, chance);
+        match draw(sheets, MOST_THINGS) {
+            Err(number) => {
+                self.met[number as usize] += 1;
+                self.count_hidden(name, sheets, number);
+                for length in [0, 1, chance.from(2, 40)] {
+                    self.compare_answer(name, sheets, &refusals::refused(number, length), chance);
+                }
+            }
+            Ok(None) => self.set_aside += 1,
+            Ok(Some(drawn)) => {
+                self.count_kinds(name, sheets, &drawn);
+                let outcomes: Vec<Outcome> = lengths(&drawn, chance).into_iter().map(|n| drawn.outcome(n)).collect();
+                self.met[14] += u64::from(outcomes.iter().any(|outcome| outcome.number == 14));
+                self.met[0] += 1;
+                for outcome in outcomes {
+                    self.compare_answer(name, sheets, &outcome, chance);
+                }
+            }
+        }
+    }
+
+    /// The counts, and whether they are enough.
+    pub fn told(&self) -> bool {
+        println!(
+            "trials of check, answer and member: {} cases, {} calls, {} set aside",
+            self.cases, self.calls, self.set_aside
+        );
+        println!(
+            "accepted {}, the largest union {} members",
+            self.accepted, self.most_members
+        );
+        let mut enough = true;
+        let mut count = |what: &str, got: u64, least: u64| {
+            println!("{what}: {got} (at least {least})");
+            enough &= got >= least;
+        };
+        for number in 1..=14 {
+            count(
+                &format!("met {number}, {} times before a later one", self.hid[number]),
+                self.met[number],
+                50,
+            );
+        }
+        count(
+            "accepted, with an answer that member 0 alone does not find",
+            self.beyond_member_0,
+            500,
+        );
+        count("accepted, with rounds that never end", self.never_end, 200);
+        count(
+            "accepted, with an answer that no member reached without a merge finds",
+            self.need_merge,
+            100,
+        );
+        println!("differences: {}", self.differences);
+        enough && self.differences == 0
+    }
+}
+
+/// Lengths of lists around the edge, multiples of a tuple and others.
+fn lengths(drawn: &Drawn, chance: &mut Chance) -> Vec<usize> {
+    let needed = drawn.needed();
+    let tuple = 2 * drawn.accepted.question.answers.len();
+    let mut lengths = vec![
+        0,
+        needed,
+        needed + 1,
+        needed + tuple,
+        needed + tuple + 1,
+        needed + chance.from(2, 300),
+    ];
+    lengths.extend([
+        1,
+        2,
+        tuple.saturating_sub(1),
+        needed.saturating_sub(1),
+        needed.saturating_sub(tuple),
+        needed / 2,
+    ]);
+    lengths.push(chance.from(0, needed + 8));
+    if chance.one_in(16) {
+        lengths.push(16_384);
+    }
+    lengths.sort();
+    lengths.dedup();
+    lengths
+}

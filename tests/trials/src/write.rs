@@ -1,0 +1,158 @@
+//! Packing sheets, the counterpart of reading. Where a role has a partner, chance decides which of the two is written.
+
+use crate::chance::Chance;
+use crate::refusals::Sheets;
+use crate::sheets::{Atom, Description, Fact, Question, Rule, Step, Term};
+
+/// Four sheets before they are packed.
+#[derive(Clone, Debug)]
+pub struct Draft {
+    pub rules: Vec<Rule>,
+    pub question: Question,
+    pub members: Vec<(Step, Question)>,
+    pub facts: Vec<Fact>,
+}
+
+#[derive(Default)]
+struct Packer {
+    bytes: Vec<u8>,
+    bits: usize,
+}
+
+impl Packer {
+    fn put(&mut self, many: usize, number: u32) {
+        for bit in (0..many).rev() {
+            if self.bits % 8 == 0 {
+                self.bytes.push(0);
+            }
+            let last = self.bytes.last_mut().expect("a byte was just begun");
+            *last |= ((number >> bit & 1) as u8) << (7 - self.bits % 8);
+            self.bits += 1;
+        }
+    }
+
+    fn term(&mut self, term: Term) {
+        match term {
+            Term::Variable(x) => self.put(17, u32::from(x)),
+            Term::Object(a) => self.put(17, 0x10000 + u32::from(a)),
+        }
+    }
+}
+
+/// A role as it is written, and whether its arguments change places.
+fn spelled(role: u16, chance: &mut Chance) -> (u32, bool) {
+    match role {
+        0 | 2 | 4 | 6 if chance.one_in(2) => (u32::from(role) + 1, true),
+        _ => (u32::from(role), false),
+    }
+}
+
+fn described(description: Description, chance: &mut Chance) -> (u32, u32) {
+    let (form, role) = match description {
+        Description::Concept(a) => return (0, u32::from(a)),
+        Description::To(p) => (1, p),
+        Description::From(p) => (2, p),
+    };
+    let (role, exchanged) = spelled(role, chance);
+    (if exchanged { 3 - form } else { form }, role)
+}
+
+pub fn rules(rules: &[Rule], chance: &mut Chance) -> Vec<u8> {
+    let mut packer = Packer::default();
+    for &rule in rules {
+        let (kind, left, right) = match rule {
+            Rule::Bears(left, right) => (1, described(left, chance), described(right, chance)),
+            Rule::Implies { left, right, exchanged } => {
+                let (left, left_flips) = spelled(left, chance);
+                let (right, right_flips) = spelled(right, chance);
+                (2, (0, left), (u32::from(exchanged ^ left_flips ^ right_flips), right))
+            }
+        };
+        packer.put(4, kind);
+        packer.put(2, left.0);
+        packer.put(12, left.1);
+        packer.put(2, right.0);
+        packer.put(12, right.1);
+    }
+    packer.bytes
+}
+
+fn put_question(packer: &mut Packer, question: &Question, chance: &mut Chance) {
+    packer.put(4, question.answers.len() as u32);
+    packer.put(4, question.atoms.len() as u32);
+    for &answer in &question.answers {
+        packer.put(7, 0);
+        packer.term(answer);
+    }
+    for &atom in &question.atoms {
+        match atom {
+            Atom::Concept(a, t) => {
+                packer.put(2, 0);
+                packer.put(12, u32::from(a));
+                packer.term(t);
+                packer.put(17, 0);
+            }
+            Atom::Role(p, t, u) => {
+                let (role, exchanged) = spelled(p, chance);
+                let (first, second) = if exchanged { (u, t) } else { (t, u) };
+                packer.put(2, 2);
+                packer.put(12, role);
+                packer.term(first);
+                packer.term(second);
+            }
+        }
+    }
+}
+
+pub fn question(question: &Question, chance: &mut Chance) -> Vec<u8> {
+    let mut packer = Packer::default();
+    put_question(&mut packer, question, chance);
+    packer.bytes
+}
+
+pub fn union(members: &[(Step, Question)], chance: &mut Chance) -> Vec<u8> {
+    let mut packer = Packer::default();
+    packer.put(16, members.len() as u32);
+    for (step, question) in members {
+        packer.put(2, u32::from(step.kind));
+        packer.put(10, u32::from(step.parent));
+        packer.put(4, u32::from(step.atom));
+        packer.put(16, u32::from(step.other));
+        put_question(&mut packer, question, chance);
+    }
+    packer.bytes
+}
+
+pub fn facts(facts: &[Fact], chance: &mut Chance) -> Vec<u8> {
+    let mut packer = Packer::default();
+    for &fact in facts {
+        match fact {
+            Atom::Concept(a, t) => {
+                packer.put(4, 0);
+                packer.put(12, u32::from(a));
+                packer.put(16, u32::from(t));
+                packer.put(16, 0);
+            }
+            Atom::Role(p, t, u) => {
+                let (role, exchanged) = spelled(p, chance);
+                let (first, second) = if exchanged { (u, t) } else { (t, u) };
+                packer.put(4, 8);
+                packer.put(12, role);
+                packer.put(16, u32::from(first));
+                packer.put(16, u32::from(second));
+            }
+        }
+    }
+    packer.bytes
+}
+
+impl Draft {
+    pub fn sheets(&self, chance: &mut Chance) -> Sheets {
+        Sheets {
+            rules: rules(&self.rules, chance),
+            question: question(&self.question, chance),
+            union: union(&self.members, chance),
+            facts: facts(&self.facts, chance),
+        }
+    }
+}
