@@ -1,0 +1,27 @@
+use Prim.Native.Nat.{_-_}
+use lib.ListN.{length}
+use borrow.Author.Needs.{needs}
+use Rattle.cards.proofs.lines.print_bytes.Statement.{statement}
+use Rattle.cards.proofs.lines.print_bytes.Tie as tie
+
+-- nothing has to hold from turn to turn
+abbrev Inv-loop : tie.InvT-loop
+Inv-loop bytes i₀ i = Unit {0}
+
+abbrev μ-loop : tie.MeasureT-loop
+μ-loop bytes i₀ i = length bytes - i
+
+pub print-bytes-spec : {M : Type 1} → statement M
+print-bytes-spec =
+    tie.close
+    (tie.spec
+    Inv-loop
+    μ-loop
+    (λ c. tt)
+    (λ c. search needs)
+    (λ c κs. search needs)
+    (λ c κs. search needs)
+    (λ c. search needs)
+    (λ c. search needs)
+    (λ c. tt)
+    (λ c. tt))

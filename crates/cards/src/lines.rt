@@ -1,0 +1,51 @@
+// One line for a call: its name, and all that it gave.
+use answering::answer;
+use answering::check;
+use libc::STDOUT_FILENO;
+
+// Prints some bytes.
+fn print(text: &[u8]) {
+    io::write_all(STDOUT_FILENO, text);
+}
+
+// A number as it is, with room for more.
+fn wide(x: u32) -> u64 {
+    x as u64
+}
+
+// A byte as it is, with room for more.
+fn byte(x: u8) -> u64 {
+    x as u64
+}
+
+// Prints the bytes in hexadecimal.
+fn print_bytes(bytes: &[u8]) {
+    let mut i: usize = 0;
+    while i < bytes.len() {
+        io::print_hex(STDOUT_FILENO, byte(bytes[i]), 2);
+        i += 1;
+    }
+}
+
+// Draws answers into a list of 8 bytes, and prints number, count and every byte of the list.
+pub fn drawn(name: &[u8], rules: &[u8], question: &[u8], union: &[u8], facts: &[u8]) {
+    let mut list = [0xffu8; 8];
+    let answers = answer(rules, question, union, facts, &mut list);
+    print(name);
+    print(b": number ");
+    io::print_decimal(STDOUT_FILENO, wide(answers.number));
+    print(b", count ");
+    io::print_decimal(STDOUT_FILENO, answers.count);
+    print(b", list ");
+    print_bytes(&list);
+    print(b"\n");
+}
+
+// Checks a union, and prints the number.
+pub fn checked(name: &[u8], rules: &[u8], question: &[u8], union: &[u8]) {
+    let number = check(rules, question, union);
+    print(name);
+    print(b": number ");
+    io::print_decimal(STDOUT_FILENO, wide(number));
+    print(b"\n");
+}

@@ -1,0 +1,68 @@
+use Rattle.takwishan.proofs.ProgramLaws.{laws, answers-fit, text-fits, text-put}
+use borrow.Author.Needs.{needs}
+use Rattle.takwishan.proofs.text.put_answers.Statement.{statement}
+use Rattle.takwishan.proofs.text.put_answers.Tie as tie
+use Rattle.takwishan.proofs.text.put_answers.Reads as reads
+use Rattle.takwishan.proofs.text.put_answers.Lts as lts
+use Rattle.answering.proofs.answer.Reads as answer-reads
+use Rattle.report.proofs.put_report.Reads as put-report-reads
+use Rattle.takwishan.proofs.text.term_count.Reads as term-count-reads
+
+-- src/text.rt:41:9
+answer-requires : tie.Need-answer-requires
+answer-requires c κs = search laws
+
+-- src/text.rt:42:47
+term-count-requires : tie.Need-term-count-requires
+term-count-requires c κs = search laws
+
+-- src/text.rt:42:5
+put-report-requires : tie.Need-put-report-requires
+put-report-requires c κs =
+    let at-answer = c .before .before .before .before .before in
+    let start = at-answer .before .before .before .before .before .before .before .before in
+    let gave = at-answer .answer .ensures .0 in
+    let terms = c .before .before .term-count in (
+      answers-fit (start .args .rules .now) (start .args .question .now) (start .args .union .now) (start .args .facts .now) (start .args .list .now)
+          (at-answer .answer .last .1 .1 .1 .1 .0) (at-answer .answer .result .number) (at-answer .answer .result .count) (terms .result)
+          (start .pre .0) (gave .0) (gave .1) (gave .2) (terms .ensures),
+      text-fits (start .args .rules .now) (start .args .question .now) (start .args .union .now) (start .args .facts .now) (start .args .list .now)
+          (at-answer .answer .last .1 .1 .1 .1 .0) (at-answer .answer .result .number) (at-answer .answer .result .count) (terms .result)
+          (start .pre .0) (gave .0) (gave .1) (gave .2) (terms .ensures)
+          (start .args .text .now) (start .pre .1),
+    )
+
+-- src/text.rt:29:1
+same-length : tie.Need-same-length
+same-length c = search laws
+
+-- src/text.rt:29:1
+same-length-2 : tie.Need-same-length-2
+same-length-2 c = search laws
+
+-- src/text.rt:29:1
+returns : tie.Need-returns
+returns c =
+    let at-report = c .before .before in
+    let before = at-report .before in
+    let at-answer = before .before .before .before .before .before in
+    let start = at-answer .before .before .before .before .before .before .before .before in
+    let gave = at-answer .answer .ensures .0 in
+    let terms = before .before .before .term-count in (
+      text-put (start .args .rules .now) (start .args .question .now) (start .args .union .now) (start .args .facts .now) (start .args .list .now)
+          (at-answer .answer .last .1 .1 .1 .1 .0) (at-answer .answer .result .number) (at-answer .answer .result .count) (terms .result)
+          (start .pre .0) (gave .0) (gave .1) (gave .2) (terms .ensures)
+          (at-report .put-report .last .1 .1 .1 .1 .0) (at-report .put-report .result) (at-report .put-report .ensures .0),
+      at-report .put-report .ensures .1,
+    )
+
+pub put-answers-spec : {M : Type 1} → statement M
+put-answers-spec =
+    tie.close
+    (tie.spec
+    answer-requires
+    term-count-requires
+    put-report-requires
+    same-length
+    same-length-2
+    returns)

@@ -1,0 +1,108 @@
+/*
+ * Takwishan for C: a union of conjunctive queries checked against rules and question, answers drawn with it from facts, and a member of a
+ * union shown. Link with target/staticlib/libanswering.a, which `rt staticlib answering` writes (x86-64 Linux).
+ *
+ * A sheet is a pointer and a length in bytes. The pointer must not be null and must be good for reading so many bytes, also where the
+ * length is 0; nothing may write them during the call. The list must be good for writing and must not overlap a sheet. Every sheet of
+ * every length and every content is answered: none of these functions fails, allocates, or keeps a pointer. They need some 300 KB of stack
+ * and may be called from several threads at once.
+ */
+#ifndef TAKWISHAN_H
+#define TAKWISHAN_H
+
+#include <stddef.h>
+#include <stdint.h>
+
+#ifdef __cplusplus
+extern "C" {
+#endif
+
+/* The longest sheets, in bytes; a longer one is refused. */
+enum {
+    TAKWISHAN_MOST_RULE_BYTES = 2048,     /* 512 rules of 4 bytes */
+    TAKWISHAN_MOST_QUESTION_BYTES = 61,   /* 1 byte, 4 answer terms of 3 bytes, 8 atoms of 6 bytes */
+    TAKWISHAN_MOST_UNION_BYTES = 33282,   /* 2 bytes, 512 members of 4 bytes and a question */
+    TAKWISHAN_MOST_FACT_BYTES = 60000     /* 10,000 facts of 6 bytes */
+};
+
+/* What a sheet may hold. */
+enum {
+    TAKWISHAN_MOST_RULES = 512,
+    TAKWISHAN_MOST_TERMS = 4,
+    TAKWISHAN_MOST_ATOMS = 8,
+    TAKWISHAN_MOST_VARIABLE = 31,
+    TAKWISHAN_MOST_OBJECT = 65535,
+    TAKWISHAN_MOST_MEMBERS = 512,
+    TAKWISHAN_MOST_FACTS = 10000,
+    TAKWISHAN_OBJECT_BYTES = 2            /* of an object in an answer list, high byte first */
+};
+
+/* What is refused: the first entry whose condition holds decides, for the earlier ones not holding. */
+enum takwishan_number {
+    /* Not refused. */
+    TAKWISHAN_ACCEPTED = 0,
+    /* The rule sheet's length is no multiple of 4 or exceeds 2,048 bytes. */
+    TAKWISHAN_RULE_SHEET_LENGTH = 1,
+    /* A rule has a kind or form not named. */
+    TAKWISHAN_NO_SUCH_RULE = 2,
+    /* The question has a count out of range, a set bit that must be zero, a variable above 31, or a wrong length. */
+    TAKWISHAN_QUESTION_MALFORMED = 3,
+    /* An answer variable stands in no atom of the question. */
+    TAKWISHAN_ANSWER_VARIABLE_NOWHERE = 4,
+    /* The question, as read, has one atom twice. */
+    TAKWISHAN_ATOM_TWICE = 5,
+    /* The union's count is out of range, its bytes end early or run on, a member would meet 3, 4 or 5, or a member's answer-term count
+     * differs from the question's. */
+    TAKWISHAN_UNION_MALFORMED = 6,
+    /* Member 0 has a nonzero step, or answer terms or atoms that differ from the question's in their order. */
+    TAKWISHAN_FIRST_MEMBER_NOT_QUESTION = 7,
+    /* A later member's step has kind 0 or 3, a parent not earlier, an index that doesn't exist, or doesn't apply. */
+    TAKWISHAN_STEP_DOES_NOT_APPLY = 8,
+    /* A step's result isn't alike to its member. */
+    TAKWISHAN_STEP_GIVES_ANOTHER = 9,
+    /* Two members are alike. */
+    TAKWISHAN_MEMBERS_ALIKE = 10,
+    /* A step from some member leads to no question alike to a member. */
+    TAKWISHAN_UNION_OPEN = 11,
+    /* The fact sheet's length is no multiple of 6 or exceeds 60,000 bytes. */
+    TAKWISHAN_FACT_SHEET_LENGTH = 12,
+    /* A fact has a set bit that must be zero. */
+    TAKWISHAN_FACT_MALFORMED = 13,
+    /* The answer list is shorter than 2 x terms x answers bytes. */
+    TAKWISHAN_LIST_TOO_SHORT = 14
+};
+
+/* What a call that draws answers gives beside the list. */
+struct takwishan_answers {
+    uint32_t number; /* 0, or the number of the refusal */
+    uint64_t count;  /* how many answers the list has; 0 on a refusal */
+};
+
+/* Where a part of a sheet begins, and how many bytes it has. */
+struct takwishan_part {
+    size_t start;
+    size_t length;
+};
+
+/* Checks a union against rules and question: the number of the first refusal of 1 to 11 that applies, or 0 where the union is accepted. */
+uint32_t takwishan_check(const uint8_t *rules, size_t rules_length, const uint8_t *question, size_t question_length,
+                         const uint8_t *union_sheet, size_t union_length);
+
+/*
+ * Draws the answers into the list. Where the number is 0, the list holds `count` tuples, each with as many objects of two bytes as the
+ * question has answer terms, ascending, each once: exactly those that facts and rules bear out. The bytes after them are zero. On a
+ * refusal of 1 to 14 the count is 0 and the whole list is zeros.
+ */
+struct takwishan_answers takwishan_answer(const uint8_t *rules, size_t rules_length, const uint8_t *question, size_t question_length,
+                                          const uint8_t *union_sheet, size_t union_length, const uint8_t *facts, size_t facts_length,
+                                          uint8_t *list, size_t list_length);
+
+/* The part of a union sheet that holds the question of a member, counted from 0. Its length is 0, and its start too, if the sheet meets 6 on its
+ * own (term counts being compared with member 0's) or has no such member. */
+struct takwishan_part takwishan_member(const uint8_t *union_sheet, size_t union_length, size_t member);
+
+#ifdef __cplusplus
+}
+#endif
+
+#endif

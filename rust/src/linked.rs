@@ -1,0 +1,78 @@
+//! The proved library's functions. All unsafe code is here.
+
+/// What drawing gives beside the list.
+#[repr(C)]
+pub struct Answers {
+    pub number: u32,
+    pub count: u64,
+}
+
+/// Where a part of a sheet begins, and how many bytes it has.
+#[repr(C)]
+pub struct Part {
+    pub start: usize,
+    pub length: usize,
+}
+
+extern "C" {
+    fn takwishan_check(
+        rules: *const u8,
+        rules_length: usize,
+        question: *const u8,
+        question_length: usize,
+        union: *const u8,
+        union_length: usize,
+    ) -> u32;
+
+    fn takwishan_answer(
+        rules: *const u8,
+        rules_length: usize,
+        question: *const u8,
+        question_length: usize,
+        union: *const u8,
+        union_length: usize,
+        facts: *const u8,
+        facts_length: usize,
+        list: *mut u8,
+        list_length: usize,
+    ) -> Answers;
+
+    fn takwishan_member(union: *const u8, union_length: usize, member: usize) -> Part;
+}
+
+pub fn check(rules: &[u8], question: &[u8], union: &[u8]) -> u32 {
+    // Safety: each pointer is that of a slice of the length beside it, and the function only reads them.
+    unsafe {
+        takwishan_check(
+            rules.as_ptr(),
+            rules.len(),
+            question.as_ptr(),
+            question.len(),
+            union.as_ptr(),
+            union.len(),
+        )
+    }
+}
+
+pub fn answer(rules: &[u8], question: &[u8], union: &[u8], facts: &[u8], list: &mut [u8]) -> Answers {
+    // Safety: each pointer is that of a slice of the length beside it. The function writes only the list, which is borrowed for itself alone.
+    unsafe {
+        takwishan_answer(
+            rules.as_ptr(),
+            rules.len(),
+            question.as_ptr(),
+            question.len(),
+            union.as_ptr(),
+            union.len(),
+            facts.as_ptr(),
+            facts.len(),
+            list.as_mut_ptr(),
+            list.len(),
+        )
+    }
+}
+
+pub fn member(union: &[u8], m: usize) -> Part {
+    // Safety: the pointer is that of a slice of the length beside it, and the function only reads it.
+    unsafe { takwishan_member(union.as_ptr(), union.len(), m) }
+}

@@ -1,0 +1,84 @@
+//! What the desk turns back: document 01's list.
+use std::fmt;
+
+/// The list in one place: a case, its number and 01's sentence.
+macro_rules! refusals {
+    ($($case:ident = $number:literal: $sentence:literal,)*) => {
+        /// Why a call was refused. The first entry whose condition holds decides, for the earlier ones not holding. Checking a union uses 1 to
+        /// 11, drawing answers all.
+        #[derive(Clone, Copy, Debug, PartialEq, Eq, PartialOrd, Ord, Hash)]
+        pub enum Refusal {
+            $(#[doc = concat!(stringify!($number), ": ", $sentence)] $case = $number,)*
+        }
+
+        impl Refusal {
+            /// Every refusal, in the order of the list.
+            pub const ALL: &'static [Refusal] = &[$(Refusal::$case,)*];
+
+            /// 01's sentence.
+            pub fn sentence(self) -> &'static str {
+                match self {
+                    $(Refusal::$case => $sentence,)*
+                }
+            }
+        }
+    };
+}
+
+refusals! {
+    RuleSheetLength = 1: "The rule sheet's length is no multiple of 4 or exceeds 2,048 bytes.",
+    NoSuchRule = 2: "A rule has a kind or form not named above.",
+    QuestionMalformed = 3: "The question has a count out of range, a set bit that must be zero, a variable above 31, or a wrong length.",
+    AnswerVariableNowhere = 4: "An answer variable stands in no atom of the question.",
+    AtomTwice = 5: "The question, as read, has one atom twice.",
+    UnionMalformed = 6: "The union's count is out of range, its bytes end early or run on, a member would meet 3, 4 or 5, or a member's answer-term count differs from the question's.",
+    FirstMemberNotQuestion = 7: "Member 0 has a nonzero step, or answer terms or atoms that differ from the question's in their order.",
+    StepDoesNotApply = 8: "A later member's step has kind 0 or 3, a parent not earlier, an index that doesn't exist, or doesn't apply.",
+    StepGivesAnother = 9: "A step's result isn't alike to its member.",
+    MembersAlike = 10: "Two members are alike.",
+    UnionOpen = 11: "A step from some member leads to no question alike to a member.",
+    FactSheetLength = 12: "The fact sheet's length is no multiple of 6 or exceeds 60,000 bytes.",
+    FactMalformed = 13: "A fact has a set bit that must be zero.",
+    ListTooShort = 14: "The answer list is shorter than 2 × terms × answers bytes.",
+}
+
+impl Refusal {
+    /// Its number on the list, 1 to 14.
+    pub fn number(self) -> u32 {
+        self as u32
+    }
+
+    /// The refusal with that number.
+    pub fn from_number(number: u32) -> Option<Refusal> {
+        let index = usize::try_from(number).ok()?.checked_sub(1)?;
+        Refusal::ALL.get(index).copied()
+    }
+}
+
+impl fmt::Display for Refusal {
+    fn fmt(&self, out: &mut fmt::Formatter<'_>) -> fmt::Result {
+        write!(out, "refused {}: {}", self.number(), self.sentence())
+    }
+}
+
+impl std::error::Error for Refusal {}
+
+#[cfg(test)]
+mod tests {
+    use super::Refusal;
+
+    #[test]
+    fn numbers_go_both_ways() {
+        for (i, refusal) in Refusal::ALL.iter().enumerate() {
+            assert_eq!(refusal.number() as usize, i + 1);
+            assert_eq!(Refusal::from_number(refusal.number()), Some(*refusal));
+        }
+        assert_eq!(Refusal::from_number(0), None);
+        assert_eq!(Refusal::from_number(15), None);
+    }
+
+    #[test]
+    fn says_number_and_sentence() {
+        assert_eq!(Refusal::MembersAlike.to_string(), "refused 10: Two members are alike.");
+    }
+}
