@@ -30,6 +30,7 @@ pub mod limits;
 mod linked;
 mod refusal;
 
+pub use linked::Answers;
 pub use refusal::Refusal;
 
 /// Checks a union against rules and question: the first refusal of 1 to 11 that applies, or `Ok` where the union is accepted.
@@ -43,9 +44,14 @@ pub fn check(rules: &[u8], question: &[u8], union: &[u8]) -> Result<(), Refusal>
 /// first, ascending, each once; the bytes after them are zero. They are exactly the tuples that facts and rules bear out. On a refusal
 /// of 1 to 14 the whole list is zeros. A question without answer terms has 0 answers or 1, and writes no bytes.
 pub fn answer(rules: &[u8], question: &[u8], union: &[u8], facts: &[u8], list: &mut [u8]) -> Result<usize, Refusal> {
-    let drawn = linked::answer(rules, question, union, facts, list);
+    let drawn = outcome(rules, question, union, facts, list);
     given(drawn.number)?;
     Ok(usize::try_from(drawn.count).expect("the answers lie in the list, or it is the empty tuple alone"))
+}
+
+/// The same as the library gives it: the number, 0 or the refusal's, and the count, 0 on a refusal.
+pub fn outcome(rules: &[u8], question: &[u8], union: &[u8], facts: &[u8], list: &mut [u8]) -> Answers {
+    linked::answer(rules, question, union, facts, list)
 }
 
 /// The part of a union sheet that holds the question of member `m`, counted from 0. It is empty if the sheet meets 6 on its own (term counts

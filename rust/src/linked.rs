@@ -2,8 +2,11 @@
 
 /// What drawing gives beside the list.
 #[repr(C)]
+#[derive(Clone, Copy, Debug, PartialEq, Eq)]
 pub struct Answers {
+    /// 0, or the number of the refusal.
     pub number: u32,
+    /// How many answers the list has; 0 on a refusal.
     pub count: u64,
 }
 
