@@ -25,13 +25,13 @@ use Rattle.sheets.specs.Refusals.{Sheets, checking, drawing, refusalOf, refuses
 use Rattle.sheets.specs.Laws.QuestionRefusals.{question-arity}
 use Rattle.sheets.specs.Laws.OneList.{number-zero, drawing-first}
 use Rattle.read_question.specs.QuestionWords.{ReadFrom}
-use Rattle.answering.specs.declared.Answers.{Answers}
+use Rattle.drawing.specs.declared.Answers.{Answers}
 use Rattle.answering.specs.Demands.{theRules, theQuestion, theFacts, checkNumber, SoundAndAccepted, SoundFacts}
 use Rattle.answering.specs.Drawing.{theAnswers, termsOf, bytesNeeded, outcome, Registered, StandsAt, Listed, number-is, zero-means, fourteen-means, refused-means, count-means, list-means, both-readers, ascending, rest-zero}
-use Rattle.answering.specs.Stages.{otherwise, Gives}
+use Rattle.drawing.specs.Stages.{otherwise, Gives}
 use Rattle.answering.specs.Laws.Drawing.{four, checked-same}
 use Rattle.answering.proofs.CheckLaws.{rules-refused, question-refused, all-checked}
-use Rattle.answering.proofs.DrawLaws.{refused-first, gives-along}
+use Rattle.drawing.proofs.DrawLaws.{refused-first, gives-along}
 
 -- ---- numbers, one after the other
 

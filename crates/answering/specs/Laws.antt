@@ -1,6 +1,5 @@
 -- What the promises rest on.
 pub mod Checking
 pub mod AnswerBytes
-pub mod Registered
 pub mod Conditions
 pub mod Drawing

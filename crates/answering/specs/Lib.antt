@@ -1,6 +1,5 @@
 -- The promises, and what they rest on.
 pub mod Demands
 pub mod Drawing
-pub mod Stages
 pub mod Showing
 pub mod Laws

@@ -1,12 +1,11 @@
 // The library: a union checked against rules and question, answers drawn with it from facts, and a member shown.
-mod draw;
-mod members;
 mod show;
 
-use crate::draw::draw_members;
-use crate::draw::refuse;
-use crate::members::check_members;
 use crate::show::question_start;
+use drawing::Answers;
+use drawing::draw_members;
+use drawing::members::check_members;
+use drawing::refuse;
 use read_question::read_question;
 use read_rules::read_rules;
 use records::partners::default_partners;
@@ -47,13 +46,6 @@ pub extern "C" fn takwishan_check(rules: &[u8], question: &[u8], union: &[u8]) -
     ensures accepted { λ r. ⌜ (r ≡ 0) ↔ SoundAndAccepted (now (rules .entry)) (now (question .entry)) (now (union .entry)) ⌝ }
 {
     check(rules, question, union)
-}
-
-// What a call that draws answers gives beside the list: the number of its refusal, or 0, and how many answers the list has.
-#[repr(C)]
-pub struct Answers {
-    pub number: u32,
-    pub count: u64,
 }
 
 // Draws the answers of an accepted union from facts into the list: the number of the first refusal of 1 to 14 that applies, or 0; the count,

@@ -11,3 +11,4 @@ pub mod PackingNumbers
 pub mod PackingSheets
 pub mod PackingQueries
 pub mod PackingUnions
+pub mod ObjectRange

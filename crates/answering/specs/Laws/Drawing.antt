@@ -28,7 +28,7 @@ use Rattle.evaluation.specs.Registered.{registered}
 use Rattle.answering.specs.Demands.{theRules, theQuestion, theUnion, theFacts, sheetsOf, AcceptedFor, SoundFacts, SoundAndAccepted, zero-accepts, zero-means}
 use Rattle.answering.specs.Laws.Checking.{numbered}
 use Rattle.answering.specs.Laws.Conditions.{with-last, none-with-last}
-use Rattle.answering.specs.Laws.Registered.{facts-in-range, constants-in-range}
+use Rattle.sheets.specs.Laws.ObjectRange.{facts-in-range, constants-in-range}
 
 -- ---- one more refusal at the end of the list
 

@@ -10,7 +10,7 @@ ghost use Rattle.theory.specs.Lists.{pick};
 ghost use Rattle.theory.specs.Union.{check as checkOf};
 ghost use Rattle.words.specs.Words.{rulesIn, queryOf, unionIn, Small};
 ghost use Rattle.sheets.specs.Refusals.{refuses6, unionAsRead, numberOf};
-ghost use Rattle.answering.specs.Stages.{Members};
+ghost use Rattle.drawing.specs.Stages.{Members};
 
 // Refusals 6 to 11, for rules and a question that were read: the number of the first that applies, or 0 and the members in the table.
 pub fn read_members(

@@ -1,6 +1,6 @@
-use Rattle.answering.proofs.MembersLaws.{laws, not-zero}
-use Rattle.answering.proofs.members.read_members.Statement.{statement}
-use Rattle.answering.proofs.members.read_members.Tie as tie
+use Rattle.drawing.proofs.MembersLaws.{laws, not-zero}
+use Rattle.drawing.proofs.members.read_members.Statement.{statement}
+use Rattle.drawing.proofs.members.read_members.Tie as tie
 
 pub read-members-spec : {M : Type 1} → statement M
 read-members-spec =

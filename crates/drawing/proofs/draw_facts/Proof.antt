@@ -1,6 +1,6 @@
-use Rattle.answering.proofs.DrawLaws.{laws, facts-registered}
-use Rattle.answering.proofs.draw.draw_facts.Statement.{statement}
-use Rattle.answering.proofs.draw.draw_facts.Tie as tie
+use Rattle.drawing.proofs.DrawLaws.{laws, facts-registered}
+use Rattle.drawing.proofs.draw_facts.Statement.{statement}
+use Rattle.drawing.proofs.draw_facts.Tie as tie
 
 draw-answers-requires : tie.Need-draw-answers-requires
 draw-answers-requires c κs =

@@ -11,7 +11,7 @@ use Rattle.sheets.specs.AnswerList.{listBytes}
 use Rattle.words.specs.Words.{unionIn}
 use Rattle.rows.specs.Rows.{Rows}
 use Rattle.evaluation.specs.Arity.{Arity}
-use Rattle.answering.specs.declared.Answers.{Answers}
+use Rattle.drawing.specs.declared.Answers.{Answers}
 
 -- the table has n members of so many answer terms each, and their objects among the answer terms are 16-bit numbers
 pub record Members (table : List ℕ) (n terms : ℕ) : Type 0 where

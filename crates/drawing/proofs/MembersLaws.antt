@@ -23,8 +23,8 @@ use Rattle.sheets.specs.Laws.QuestionRefusals.{refuses5-twice, not5-unrepeated,
 use Rattle.sheets.specs.Laws.UnionRefusals.{not6-iff, questionStart, memberQuestion}
 use Rattle.read_union.specs.Members.{NarrowRows}
 use Rattle.rows.specs.Rows.{Rows, Row}
-use Rattle.answering.specs.Stages.{Members}
-use Rattle.answering.specs.Laws.Registered.{constants-in-range}
+use Rattle.drawing.specs.Stages.{Members}
+use Rattle.sheets.specs.Laws.ObjectRange.{constants-in-range}
 
 -- ---- the members of a union that doesn't meet 6
 

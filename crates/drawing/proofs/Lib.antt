@@ -1,0 +1,2 @@
+pub mod MembersLaws
+pub mod DrawLaws

@@ -1,0 +1,2 @@
+-- What the stages of a call hand on.
+pub mod Stages
