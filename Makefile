@@ -20,5 +20,7 @@ trials:
 	@cargo run --release --quiet --offline --manifest-path tests/trials/Cargo.toml -- $(SEED) $(CASES)
 
 bench:
-	@rt staticlib bench_lib
-	@cargo run --release --offline --manifest-path bench/Cargo.toml
+	@rt staticlib bench_lib >/dev/null
+	@rt staticlib answering >/dev/null
+	@cargo run --release --quiet --offline --manifest-path bench/Cargo.toml
+	@cargo run --release --quiet --offline --manifest-path bench/drawing/Cargo.toml

@@ -11,7 +11,7 @@ fn refused(number: u32) -> Read {
 }
 
 /// The lower of a role and its partner, and whether that is the partner, so that the arguments are exchanged.
-fn as_read(role: u16, partners: &[u16]) -> (u16, bool) {
+pub fn as_read(role: u16, partners: &[u16]) -> (u16, bool) {
     match partners.get(role as usize) {
         Some(&partner) if partner < role => (partner, true),
         _ => (role, false),
@@ -100,11 +100,35 @@ fn stands(term: u64, atom: u64) -> bool {
     atom >> 25 & 0x1ff_ffff == term || (atom >> 63 == 1 && atom & 0x1ff_ffff == term)
 }
 
-/// Whether 4 and 5 are not met: every answer variable stands in an atom, and no atom is there twice.
-fn sound(answers: &[u64], atoms: &[u64]) -> bool {
+/// Whether 4 is not met: every answer variable stands in an atom.
+pub fn covered(answers: &[u64], atoms: &[u64]) -> bool {
     let covered = |&term: &u64| term >> 24 == 1 || atoms.iter().any(|&atom| stands(term, atom));
-    let repeated = |k: usize| atoms[..k].contains(&atoms[k]);
-    answers.iter().all(covered) && !(1..atoms.len()).any(repeated)
+    answers.iter().all(covered)
+}
+
+/// Whether 5 is met: an atom is there twice.
+pub fn repeated(atoms: &[u64]) -> bool {
+    (1..atoms.len()).any(|k| atoms[..k].contains(&atoms[k]))
+}
+
+/// Reads a question into a member's row, and gives the rest of the sheet; None if the question meets 3.
+pub fn records<'a>(sheet: &'a [u8], partners: &[u16], row: &mut [u64; ROW]) -> Option<&'a [u8]> {
+    let (&counts, sheet) = sheet.split_first()?;
+    let (terms, size) = ((counts >> 4) as usize, (counts & 15) as usize);
+    if terms > 4 || !(1..=8).contains(&size) {
+        return None;
+    }
+    let (answers, sheet) = sheet.split_at_checked(ANSWER * terms)?;
+    let (atoms, sheet) = sheet.split_at_checked(RECORD * size)?;
+    row[1] = terms as u64;
+    row[6] = size as u64;
+    for (record, word) in answers.chunks_exact(ANSWER).zip(&mut row[2..6]) {
+        *word = answer(record)?;
+    }
+    for (record, word) in atoms.chunks_exact(RECORD).zip(&mut row[8..]) {
+        *word = atom(record, partners)?;
+    }
+    Some(sheet)
 }
 
 /// Reads the sheet's next member into its row, and gives the rest of the sheet; None if the member is refused.
@@ -115,24 +139,12 @@ fn member<'a>(
     row: &mut [u64; ROW],
 ) -> Option<&'a [u8]> {
     let (step, sheet) = sheet.split_first_chunk()?;
-    let (&counts, sheet) = sheet.split_first()?;
-    let (terms, size) = ((counts >> 4) as usize, (counts & 15) as usize);
-    if terms > 4 || terms != arity || !(1..=8).contains(&size) {
-        return None;
-    }
-    let (answers, sheet) = sheet.split_at_checked(ANSWER * terms)?;
-    let (atoms, sheet) = sheet.split_at_checked(RECORD * size)?;
     *row = [0; ROW];
     row[0] = u32::from_be_bytes(*step) as u64;
-    row[1] = terms as u64;
-    row[6] = size as u64;
-    for (record, word) in answers.chunks_exact(ANSWER).zip(&mut row[2..6]) {
-        *word = answer(record)?;
-    }
-    for (record, word) in atoms.chunks_exact(RECORD).zip(&mut row[8..]) {
-        *word = atom(record, partners)?;
-    }
-    sound(&row[2..2 + terms], &row[8..8 + size]).then_some(sheet)
+    let sheet = records(sheet, partners, row)?;
+    let (terms, size) = (row[1] as usize, row[6] as usize);
+    let (answers, atoms) = (&row[2..2 + terms], &row[8..8 + size]);
+    (terms == arity && covered(answers, atoms) && !repeated(atoms)).then_some(sheet)
 }
 
 /// The union's member count, if it isn't refused.

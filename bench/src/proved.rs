@@ -1,4 +1,5 @@
-//! The proved readers, as the static library has them, each in a safe function that tests what its contract requires.
+//! The proved readers and the proved check, as the static libraries have them, each in a safe function that tests what its contract
+//! requires.
 use crate::{Read, MOST_FACTS, MOST_MEMBERS, ROW};
 
 extern "C" {
@@ -20,6 +21,29 @@ extern "C" {
         table: *mut u64,
         table_len: usize,
     ) -> u64;
+
+    fn takwishan_check(
+        rules: *const u8,
+        rules_len: usize,
+        question: *const u8,
+        question_len: usize,
+        union: *const u8,
+        union_len: usize,
+    ) -> u32;
+}
+
+/// The number of the first refusal of 1 to 11 that applies, 0 where the union is accepted. It requires nothing.
+pub fn check(rules: &[u8], question: &[u8], union: &[u8]) -> u32 {
+    unsafe {
+        takwishan_check(
+            rules.as_ptr(),
+            rules.len(),
+            question.as_ptr(),
+            question.len(),
+            union.as_ptr(),
+            union.len(),
+        )
+    }
 }
 
 /// The number and the count of the word that the library gives for both.

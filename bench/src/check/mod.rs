@@ -1,0 +1,168 @@
+//! The check of a union in plain Rust, with the proved library's algorithm: refusals 1 to 11 in 01's order, keys computed once, a
+//! comparison up to renaming only where two keys agree. It is written with references, slices and iterators, and nothing is
+//! allocated but the tables.
+pub mod bad;
+pub mod cards;
+pub mod compare;
+mod key;
+pub mod measure;
+mod renaming;
+pub mod search;
+pub mod steps;
+pub mod unions;
+pub mod words;
+
+pub use key::key_of;
+use std::cell::Cell;
+use steps::{merge_step, rule_step};
+use words::{read_question, read_rules, Query, Rule};
+
+use crate::{plain, MOST_MEMBERS, PARTNERS, ROW};
+
+/// A question and the 32 bits of the step written beside it.
+#[derive(Clone, Copy)]
+pub struct Member {
+    pub step: u32,
+    pub query: Query,
+}
+
+/// What a check did.
+#[derive(Default)]
+pub struct Counts {
+    /// comparisons up to renaming for 10 and 11, and how many of them said no
+    pub compared: u64,
+    pub unlike: u64,
+    /// members that a key passed over
+    pub passed: u64,
+    /// questions that steps led to, for 11
+    pub results: u64,
+    /// how often a partial renaming was tested, in all comparisons
+    pub tests: Cell<u64>,
+}
+
+pub fn alike(p: &Query, q: &Query, counts: &Counts) -> bool {
+    renaming::alike(p, q, &counts.tests)
+}
+
+/// Rules, members and the members' keys.
+struct Union<'a> {
+    rules: &'a [Rule],
+    members: &'a [Member],
+    keys: Vec<u64>,
+}
+
+/// What the step beside member k yields.
+fn yielded(rules: &[Rule], members: &[Member], k: usize) -> Option<Query> {
+    let step = members[k].step;
+    let parent = (step >> 20 & 0x3ff) as usize;
+    let (atom, other) = ((step >> 16 & 15) as usize, (step & 0xffff) as usize);
+    if parent >= k {
+        return None;
+    }
+    let query = &members[parent].query;
+    match step >> 30 {
+        1 => rule_step(query, atom, *rules.get(other)?),
+        2 => merge_step(query, atom, other),
+        _ => None,
+    }
+}
+
+impl Union<'_> {
+    /// Whether the query is alike to a member from number `from` on.
+    fn alike_from(&self, query: &Query, key: u64, from: usize, counts: &mut Counts) -> bool {
+        for j in from..self.members.len() {
+            if self.keys[j] != key {
+                counts.passed += 1;
+                continue;
+            }
+            counts.compared += 1;
+            if alike(query, &self.members[j].query, counts) {
+                return true;
+            }
+            counts.unlike += 1;
+        }
+        false
+    }
+
+    fn refuses10(&self, counts: &mut Counts) -> bool {
+        (0..self.members.len())
+            .any(|i| self.alike_from(&self.members[i].query, self.keys[i], i + 1, counts))
+    }
+
+    /// Whether a step leads to a question that is alike to no member.
+    fn outside(&self, result: Option<Query>, counts: &mut Counts) -> bool {
+        result.is_some_and(|query| {
+            counts.results += 1;
+            !self.alike_from(&query, key_of(&query), 0, counts)
+        })
+    }
+
+    fn refuses11(&self, counts: &mut Counts) -> bool {
+        self.members.iter().any(|Member { query, .. }| {
+            let size = query.atoms().len();
+            let by_rule = (0..size).any(|i| {
+                let mut rules = self.rules.iter();
+                rules.any(|&rule| self.outside(rule_step(query, i, rule), counts))
+            });
+            by_rule
+                || (0..size)
+                    .any(|i| (i + 1..size).any(|j| self.outside(merge_step(query, i, j), counts)))
+        })
+    }
+}
+
+/// The first of refusals 7 to 11, or 0.
+fn check_union(rules: &[Rule], question: &Query, members: &[Member], counts: &mut Counts) -> u32 {
+    if members[0].step != 0
+        || members[0].query.answers() != question.answers()
+        || members[0].query.atoms() != question.atoms()
+    {
+        return 7;
+    }
+    if (1..members.len()).any(|k| yielded(rules, members, k).is_none()) {
+        return 8;
+    }
+    let unlike = |k: usize| {
+        let result = yielded(rules, members, k);
+        result.is_some_and(|query| !alike(&query, &members[k].query, counts))
+    };
+    if (1..members.len()).any(unlike) {
+        return 9;
+    }
+    let keys = members.iter().map(|member| key_of(&member.query)).collect();
+    let union = Union {
+        rules,
+        members,
+        keys,
+    };
+    if union.refuses10(counts) {
+        return 10;
+    }
+    if union.refuses11(counts) {
+        return 11;
+    }
+    0
+}
+
+fn refusal(rules: &[u8], question: &[u8], union: &[u8], counts: &mut Counts) -> Result<u32, u32> {
+    let rules = read_rules(rules, &PARTNERS)?;
+    let question = read_question(question, &PARTNERS)?;
+    let mut table = vec![0; ROW * MOST_MEMBERS];
+    let read = plain::read_union(union, &PARTNERS, question.answers().len(), &mut table);
+    if read.number != 0 {
+        return Err(read.number);
+    }
+    let rows = &table.as_chunks().0[..read.count];
+    let member = |row: &[u64; ROW]| Member {
+        step: row[0] as u32,
+        query: Query::from_row(row),
+    };
+    let members: Vec<Member> = rows.iter().map(member).collect();
+    Ok(check_union(&rules, &question, &members, counts))
+}
+
+/// The number of the first refusal of 1 to 11 that applies, 0 where the union is accepted.
+#[inline(never)]
+pub fn check(rules: &[u8], question: &[u8], union: &[u8], counts: &mut Counts) -> u32 {
+    refusal(rules, question, union, counts).unwrap_or_else(|number| number)
+}
