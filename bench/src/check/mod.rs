@@ -101,8 +101,11 @@ impl Union<'_> {
         self.members.iter().any(|Member { query, .. }| {
             let size = query.atoms().len();
             let by_rule = (0..size).any(|i| {
-                let mut rules = self.rules.iter();
-                rules.any(|&rule| self.outside(rule_step(query, i, rule), counts))
+                // a rule that stands earlier needs no second try
+                let mut rules = self.rules.iter().enumerate();
+                rules.any(|(k, rule)| {
+                    !self.rules[..k].contains(rule) && self.outside(rule_step(query, i, *rule), counts)
+                })
             });
             by_rule
                 || (0..size)

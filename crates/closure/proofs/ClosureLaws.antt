@@ -1,14 +1,17 @@
 -- Refusal 11: the steps from a member, one by one.
 use mathlib.Core.Path.{_≡_, refl, sym, ap, ap₂, _∙_, subst}
-use Prim.Native.Nat.{ℕ, _+_, _-_, _≤_, _<_}
+use mathlib.Core.Logic.{_⊎_, inl, inr}
+use Prim.Native.Nat.{ℕ, zero, suc, _+_, _-_, _≤_, _<_}
+use native.Mathlib.Nat.{eq-or-lt-of-le}
 use native.Mathlib.Omega.{arith}
 use mathlib.Core.Bool.{Bool, true, false, not, _||_, or-false}
 use mathlib.Core.Option.{Option, some}
 use mathlib.Core.List.{List, [], _∷_, map, flatMap}
 use lib.ListN.{length, getD, take, set, length-map}
+use lib.Dec.{eqb}
 use lib.Seq.{length-take-le}
 use borrow.Author.Needs.{needs}
-use borrow.Author.Tests.{le-ltb}
+use borrow.Author.Tests.{le-ltb, eq-eqb, ne-eqb, eqb-true}
 use Rattle.theory.specs.Lists.{Unrepeated, At, any, toList, numbers}
 use Rattle.theory.specs.Syntax.{Rule, Query, UCQ, mapAtom, subst-term}
 use Rattle.theory.specs.Rewriting.{changeAtom, substitute, ruleStep, mergeStep, steps}
@@ -22,10 +25,10 @@ use Rattle.words.specs.declared.QueryWords.{QueryWords}
 use Rattle.rewriting.specs.declared.steps.QueryFound.{QueryFound}
 use Rattle.rewriting.specs.StepResults.{queryFound}
 use Rattle.theory.specs.Laws.Lists.{any-append, any-map, any-flatMap}
-use Rattle.closure.specs.Closure.{outside, leadsOutside}
+use Rattle.closure.specs.Closure.{outside, leadsOutside, NoneBefore}
 use Rattle.rows.specs.Rows.{memberAt}
-use Rattle.rows.proofs.ScanLaws.{someFrom, scans, skip, some-begins}
-use Rattle.rows.proofs.UnionLaws.{rows, union-from, rules-length}
+use Rattle.rows.proofs.ScanLaws.{someFrom, scans, skip, some-begins, some-later, some-found}
+use Rattle.rows.proofs.UnionLaws.{rows, union-from, rules-length, rule-there}
 use Rattle.written_steps.proofs.WrittenLaws.{is-found, is-none, rule-steps}
 
 -- ---- what a step leads to
@@ -79,6 +82,54 @@ rule-distinct r q i x f g = rule-result (ruleOf x ∷ []) (queryOf q) i 0 (query
 module _ (rules : List ℕ) (count : ℕ) (r : QueryFound) (q : QueryWords) (i k : ℕ) (within : count ≤ length rules) (h : k < count) (f : (rs : List Rule) (l : ℕ) → At rs l (ruleOf (getD rules k 0)) → queryFound r ≡ ruleStep rs (queryOf q) i l) where
   pub rule-leads : (b : Bool) (union : UCQ) → b ≡ leadsOutside union (queryFound r) → b ≡ ruleOut (rulesIn rules count) union (queryOf q) i k
   rule-leads b union e = e ∙ ap (leadsOutside union) (rule-steps rules count within r q i k h f)
+
+-- ---- a rule that stands twice
+
+module _ (p : ℕ → Bool) where
+  pub none-yet : NoneBefore p 0
+  none-yet = record { each = λ j h. absurd (omega arith) }
+
+  -- the next one does not pass either
+  pub none-longer : (k : ℕ) (b : Bool) → NoneBefore p k → b ≡ p k → b ≡ false → NoneBefore p (k + 1)
+  none-longer k b before e f = record { each = λ j h. elim (or-before j h) [ inl d ↦ ap p d ∙ sym e ∙ f | inr l ↦ before .each j l ] }
+    where
+      or-before : (j : ℕ) → j < k + 1 → (j ≡ k) ⊎ (j < k)
+      or-before j h = eq-or-lt-of-le (let l : j ≤ k = omega arith in l)
+
+  -- one of so many numbers from i on passes
+  one-passes : (n d i : ℕ) → i + d ≡ n → any p (numbers i d) ≡ true → (j : ℕ) × (j < n) × (p j ≡ true)
+  unfolding any numbers
+  one-passes n zero i e f = absurd (let z : _≡_ {A = ℕ} 0 1 = cc in omega arith)
+  one-passes n (suc d) i e f = go (p i) refl (λ g. one-passes n d (suc i) (omega arith) g)
+    where
+      go : (b : Bool) → p i ≡ b → (any p (numbers (suc i) d) ≡ true → (j : ℕ) × (j < n) × (p j ≡ true)) → (j : ℕ) × (j < n) × (p j ≡ true)
+      go true g later = (i, omega arith, g)
+      go false g later = later (sym (ap (λ b. b || any p (numbers (suc i) d)) g) ∙ f)
+
+module _ (rules : List ℕ) (k : ℕ) where
+  -- the word at j is that at k
+  abbrev pub sameWord : ℕ → Bool
+  sameWord j = eqb (getD rules j 0) (getD rules k 0)
+
+  module _ (j : ℕ) (r : Bool) (left : someFrom sameWord j k ≡ r) (h : j < k) where
+    pub word-found : getD rules j 0 ≡ getD rules k 0 → true ≡ r
+    word-found e = some-found sameWord j k r left true h (sym (eq-eqb (getD rules j 0) (getD rules k 0) e)) refl
+
+    pub word-later : (getD rules j 0 ≡ getD rules k 0 → ⊥) → someFrom sameWord (j + 1) k ≡ r
+    word-later e = some-later sameWord j k r left false h (sym (ne-eqb (getD rules j 0) (getD rules k 0) e)) refl
+
+module _ (rules : List ℕ) (count : ℕ) (within : count ≤ length rules) where
+  -- equal words are equal steps
+  same-step : (q : Query) (i j k : ℕ) → j < count → k < count → getD rules j 0 ≡ getD rules k 0 → ruleStep (rulesIn rules count) q i j ≡ ruleStep (rulesIn rules count) q i k
+  unfolding ruleStep
+  same-step q i j k g h e = simp (rule-there rules count within j g, rule-there rules count within k h, e)
+
+  -- where no earlier rule leads outside, one whose word stands earlier does not
+  pub no-second-try : (union : UCQ) (q : Query) (i k : ℕ) (b : Bool) → k < count → NoneBefore (ruleOut (rulesIn rules count) union q i) k → b ≡ any (sameWord rules k) (numbers 0 k) → b ≡ true → false ≡ ruleOut (rulesIn rules count) union q i k
+  no-second-try union q i k b h before e f =
+      let w = one-passes (sameWord rules k) k k 0 (omega arith) (sym e ∙ f) in
+      let l = w .1 in
+      sym (sym (ap (leadsOutside union) (same-step q i (w .0) k (omega arith) h (eqb-true (getD rules (w .0) 0) (getD rules k 0) (w .2)))) ∙ before .each (w .0) l)
 
 -- ---- merges
 
@@ -157,4 +208,4 @@ module _ (rules : List Rule) (table : List ℕ) (n : ℕ) where
       e ∙ sym (ap (any (λ m. any (outside (unionIn table n)) (steps rules (m .query)))) (union-from table n 0)
       ∙ any-map (λ m. any (outside (unionIn table n)) (steps rules (m .query))) (memberAt table) (numbers 0 (n - 0)))
 
-pub ruleset laws = (needs, scans, rows, leads-inside, leads-out, leads-nowhere, rule-leads, merges-begin, merge-distinct, merge-leads, atoms-lead, pairs-lead, is-eleven)
+pub ruleset laws = (needs, scans, rows, leads-inside, leads-out, leads-nowhere, rule-leads, none-yet, none-longer, word-found, word-later, no-second-try, merges-begin, merge-distinct, merge-leads, atoms-lead, pairs-lead, is-eleven)

@@ -8,14 +8,15 @@ use words::QueryWords;
 ghost use mathlib.Core.Path.{_≡_};
 ghost use mathlib.Core.Bool.{true};
 ghost use Prim.Native.Nat.{_≤_, _<_};
-ghost use lib.ListN.{length};
+ghost use lib.Dec.{eqb};
+ghost use lib.ListN.{length, getD};
 ghost use Rattle.theory.specs.Lists.{Unrepeated, any, numbers};
 ghost use Rattle.theory.specs.Syntax.{Query};
 ghost use Rattle.theory.specs.Rewriting.{ruleStep, mergeStep, steps};
 ghost use Rattle.theory.specs.Union.{refuses11 as refusesEleven};
 ghost use Rattle.words.specs.Words.{queryOf, Small, rulesIn, unionIn};
 ghost use Rattle.rewriting.specs.StepResults.{queryFound};
-ghost use Rattle.closure.specs.Closure.{outside, leadsOutside};
+ghost use Rattle.closure.specs.Closure.{outside, leadsOutside, NoneBefore};
 ghost use Rattle.distinct_members.specs.Keys.{Keys};
 ghost use Rattle.rows.specs.Rows.{Rows, memberAt};
 
@@ -36,6 +37,43 @@ fn leads_outside(r: QueryFound, table: &[u64], n: usize, keys: &[u64]) -> bool
     }
 }
 
+// Whether the rule word at index k stands earlier in the table.
+fn repeated(rules: &[u64], k: usize) -> bool
+    requires { ⌜ k < length (now rules) ⌝ }
+    ensures { λ r. ⌜ r ≡ any (λ j. eqb (getD (now (rules .entry)) j 0) (getD (now (rules .entry)) k 0)) (numbers 0 k) ⌝ }
+{
+    let word = rules[k];
+    let mut earlier: usize = 0;
+    while earlier < k {
+        if rules[earlier] == word {
+            return true;
+        }
+        earlier += 1;
+    }
+    false
+}
+
+// Whether rule k leads outside from atom i, where no earlier one does: a word that stands earlier needs no second try.
+fn rule_leads_outside(
+    rules: &[u64],
+    count: usize,
+    q: QueryWords,
+    i: usize,
+    k: usize,
+    table: &[u64],
+    n: usize,
+    keys: &[u64],
+) -> bool
+    requires { ⌜ (count ≤ length (now rules)) × (k < count) × Small q × Rows (now table) n × Keys (now table) n (now keys) × NoneBefore (λ j. leadsOutside (unionIn (now table) n) (ruleStep (rulesIn (now rules) count) (queryOf q) i j)) k ⌝ }
+    ensures { λ r. ⌜ r ≡ leadsOutside (unionIn (now (table .entry)) n) (ruleStep (rulesIn (now (rules .entry)) count) (queryOf q) i k) ⌝ }
+{
+    if repeated(rules, k) {
+        false
+    } else {
+        leads_outside(rule_step(q, i, rules[k]), table, n, keys)
+    }
+}
+
 // Whether some rule leads outside from atom i.
 fn rules_lead_outside(
     rules: &[u64],
@@ -51,7 +89,7 @@ fn rules_lead_outside(
 {
     let mut k: usize = 0;
     while k < count {
-        if leads_outside(rule_step(q, i, rules[k]), table, n, keys) {
+        if rule_leads_outside(rules, count, q, i, k, table, n, keys) {
             return true;
         }
         k += 1;
