@@ -37,6 +37,9 @@ fn lose_answer(question: &mut Question, chance: &mut Chance) {
 
 /// One atom twice.
 fn repeat_atom(question: &mut Question, chance: &mut Chance) {
+    if question.atoms.is_empty() {
+        return;
+    }
     let atom = chance.of(&question.atoms);
     if question.atoms.len() < 8 {
         let at = chance.from(0, question.atoms.len());
@@ -56,8 +59,45 @@ fn other_count(question: &mut Question, chance: &mut Chance) {
     }
 }
 
+/// A near miss of alike: one variable for two, two for one, or two that change places in one atom or in the answer terms.
+fn rename_badly(question: &mut Question, chance: &mut Chance) {
+    let is_variable = |t: &Term| matches!(t, Term::Variable(_));
+    let standing: Vec<Term> = question
+        .atoms
+        .iter()
+        .flat_map(|atom| atom.terms())
+        .filter(is_variable)
+        .collect();
+    if standing.is_empty() {
+        return;
+    }
+    let (one, two) = (chance.of(&standing), chance.of(&standing));
+    let exchange = |t: Term| match t {
+        _ if t == one => two,
+        _ if t == two => one,
+        _ => t,
+    };
+    let at = chance.below(question.atoms.len());
+    match chance.below(4) {
+        0 | 1 => {
+            let join = |t: Term| if t == one { two } else { t };
+            question.answers = question.answers.iter().copied().map(join).collect();
+            question.atoms = question.atoms.iter().map(|atom| atom.map(join)).collect();
+        }
+        2 => {
+            let new = absent_variable(question, chance);
+            question.atoms[at] = question.atoms[at].map(|t| if t == one { new } else { t });
+        }
+        _ if chance.one_in(2) => question.atoms[at] = question.atoms[at].map(exchange),
+        _ => question.answers = question.answers.iter().copied().map(exchange).collect(),
+    }
+}
+
 /// A change of one place of a question, small enough to be overlooked.
 fn change_place(question: &mut Question, chance: &mut Chance) {
+    if question.atoms.is_empty() {
+        return;
+    }
     let at = chance.below(question.atoms.len());
     let atom = question.atoms[at];
     match chance.below(10) {
@@ -123,13 +163,35 @@ fn change_place(question: &mut Question, chance: &mut Chance) {
     }
 }
 
-/// Aims at 6 within the members: one that would meet 4 or 5, or one or all with another number of answer terms.
+/// A count out of range in a question that is whole otherwise: 5 or more answer terms, no atom, or 9 or more.
+fn count_out_of_range(question: &mut Question, chance: &mut Chance) {
+    let more = chance.weighed(&[6, 1, 1, 1, 1, 1, 1]);
+    match chance.below(3) {
+        0 => question.answers.resize(5 + more, Term::Object(7)),
+        1 => question.atoms.clear(),
+        _ => {
+            let new = (question.atoms.len()..9 + more).map(|i| Atom::Concept(500 + i as u16, Term::Object(7)));
+            question.atoms.extend(new);
+        }
+    }
+}
+
+/// Copies of members up to a count around the highest that is allowed.
+fn many_members(draft: &mut Draft, chance: &mut Chance) {
+    let many = chance.of(&[511, 512, 513, 513, 514, 600]);
+    let copies = draft.members.clone();
+    while draft.members.len() < many {
+        draft.members.push(copies[chance.below(copies.len())].clone());
+    }
+}
+
+/// Aims at 6 within the members: too many, one that would meet 3, 4 or 5, or one or all with another number of answer terms.
 fn spoil_member(draft: &mut Draft, chance: &mut Chance) {
     if draft.members.is_empty() {
         return;
     }
     let at = chance.below(draft.members.len());
-    match chance.below(5) {
+    match chance.below(7) {
         0 => lose_answer(&mut draft.members[at].1, chance),
         1 => repeat_atom(&mut draft.members[at].1, chance),
         2 => other_count(&mut draft.members[at].1, chance),
@@ -142,6 +204,8 @@ fn spoil_member(draft: &mut Draft, chance: &mut Chance) {
                 }
             }
         }
+        4 => many_members(draft, chance),
+        5 => count_out_of_range(&mut draft.members[at].1, chance),
         _ => draft.members.clear(),
     }
 }
@@ -179,10 +243,11 @@ fn spoil_step(draft: &mut Draft, chance: &mut Chance) {
     let many = draft.members.len();
     let step = &mut draft.members[at].0;
     let rules = draft.rules.len() as u16;
-    match chance.below(12) {
+    match chance.below(14) {
         0 => *step = rewrite::QUESTION_ITSELF,
         1 => step.kind = chance.of(&[0, 3]),
-        2 => step.parent = chance.from(at, many.max(at + 1)) as u16 & 1023,
+        2 => step.parent = chance.of(&[at, at, at + 1, many, many - 1]) as u16,
+        12 | 13 => step.parent = at as u16,
         3 => step.parent = chance.below(1024) as u16,
         4 => step.parent = chance.below(at) as u16,
         5 => step.atom = chance.below(16) as u8,
@@ -210,10 +275,17 @@ fn spoil_step(draft: &mut Draft, chance: &mut Chance) {
 
 /// Aims at 9: a later member that its step does not lead to.
 fn spoil_result(draft: &mut Draft, chance: &mut Chance) {
-    let Some(at) = any_later(draft, chance) else {
+    let Some(mut at) = any_later(draft, chance) else {
         return;
     };
-    match chance.below(8) {
+    // rather one that none comes from, or a later step will not apply
+    for _ in 0..chance.of(&[0, 8, 8]) {
+        if draft.members.iter().skip(1).any(|(step, _)| step.parent as usize == at) {
+            at = chance.from(1, draft.members.len() - 1);
+        }
+    }
+    match chance.below(12) {
+        2..=6 => rename_badly(&mut draft.members[at].1, chance),
         0 => draft.members[at].0.parent = chance.below(at) as u16,
         1 => {
             let other = chance.below(draft.members.len());
@@ -291,7 +363,10 @@ fn open_up(draft: &mut Draft, chance: &mut Chance) {
             }
         }
     }
-    let right = match draft.question.atoms[chance.below(draft.question.atoms.len())] {
+    if draft.question.atoms.is_empty() {
+        return;
+    }
+    let right = match chance.of(&draft.question.atoms) {
         Atom::Concept(a, _) => Description::Concept(a),
         Atom::Role(p, _, _) if chance.one_in(2) => Description::To(p),
         Atom::Role(p, _, _) => Description::From(p),
@@ -329,6 +404,7 @@ fn shrink(draft: &mut Draft, chance: &mut Chance) {
 /// Changes a draft; true if there is a way to aim at this refusal before the sheets are packed.
 pub fn draft(aim: u32, draft: &mut Draft, chance: &mut Chance) -> bool {
     match aim {
+        3 if chance.one_in(3) => count_out_of_range(&mut draft.question, chance),
         4 => lose_answer(&mut draft.question, chance),
         5 => repeat_atom(&mut draft.question, chance),
         6 if chance.one_in(2) => spoil_member(draft, chance),

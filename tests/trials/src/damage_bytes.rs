@@ -92,6 +92,15 @@ fn rule_form(bytes: &mut Vec<u8>, chance: &mut Chance) {
     }
 }
 
+/// A bit of a variable's number that is too high; often that of 32.
+fn high_bit(chance: &mut Chance) -> usize {
+    if chance.one_in(2) {
+        10
+    } else {
+        chance.below(11)
+    }
+}
+
 /// Aims at 3 within the bytes of a question.
 fn question_bits(bytes: &mut [u8], chance: &mut Chance) {
     let Some(&first) = bytes.first() else {
@@ -104,7 +113,7 @@ fn question_bits(bytes: &mut [u8], chance: &mut Chance) {
         0 => field(bytes, 0, 4, chance.from(5, 15)),
         1 => field(bytes, 4, 4, chance.of(&[0, 9, 10, 11, 12, 13, 14, 15])),
         2 if terms > 0 => set(bytes, answer + chance.below(7)),
-        3 if terms > 0 && !is_set(bytes, answer + 7) => set(bytes, answer + 8 + chance.below(11)),
+        3 if terms > 0 && !is_set(bytes, answer + 7) => set(bytes, answer + 8 + high_bit(chance)),
         4 => set(bytes, atom + 1),
         5 if !is_set(bytes, atom) => set(bytes, atom + 31 + chance.below(17)),
         _ => {
@@ -114,7 +123,7 @@ fn question_bits(bytes: &mut [u8], chance: &mut Chance) {
                 atom + 14
             };
             if !is_set(bytes, term) {
-                set(bytes, term + 1 + chance.below(11));
+                set(bytes, term + 1 + high_bit(chance));
             }
         }
     }

@@ -95,3 +95,42 @@ pub fn most_facts(chance: &mut Chance) -> Draft {
     chance.shuffle(&mut draft.facts);
     draft
 }
+
+/// Hundreds or thousands of answers: one concept, one role, or every pair of two concepts' bearers, by a rule in part.
+pub fn many_answers(chance: &mut Chance) -> Draft {
+    let (a, b, p) = (1, 2, chance.of(&[0, 8, 16]));
+    let (x, y) = (Term::Variable(3), Term::Variable(0));
+    let (answers, atoms, many) = match chance.below(3) {
+        0 => (vec![x], vec![Atom::Concept(a, x)], chance.from(200, 3_000)),
+        1 => (vec![x, y, x], vec![Atom::Role(p, x, y)], chance.from(200, 2_000)),
+        _ => (
+            vec![y, x],
+            vec![Atom::Concept(a, x), Atom::Concept(b, y)],
+            chance.from(30, 90),
+        ),
+    };
+    let rules = vec![
+        Rule::Bears(Description::Concept(77), Description::Concept(a)),
+        Rule::Implies {
+            left: 77,
+            right: p,
+            exchanged: true,
+        },
+    ];
+    let question = Question { answers, atoms };
+    let mut facts = Vec::new();
+    for _ in 0..many {
+        let (one, two) = (chance.below(65_536) as u16, chance.below(65_536) as u16);
+        facts.push(match chance.of(&question.atoms) {
+            Atom::Concept(c, _) => Atom::Concept(if c == a && chance.one_in(2) { 77 } else { c }, one),
+            Atom::Role(r, _, _) => Atom::Role(if chance.one_in(2) { 77 } else { r }, one, two),
+        });
+    }
+    let members = union(&question, &rules, MOST_MEMBERS, chance).expect("few members");
+    Draft {
+        rules,
+        question,
+        members,
+        facts,
+    }
+}

@@ -21,6 +21,7 @@ fn draft(case: u64, chance: &mut Chance) -> Draft {
         (501, _) => limits::widest(chance),
         (1_001, _) => limits::most_rules(chance),
         (1_501, _) => limits::most_facts(chance),
+        (251 | 751 | 1_251 | 1_751, _) => limits::many_answers(chance),
         (_, 0) => limits::look_alike(chance),
         _ => make::draft(chance),
     }

@@ -91,6 +91,9 @@ fn rules(names: &Names, chance: &mut Chance) -> Vec<Rule> {
     if chance.one_in(3) {
         rules.extend(circle(names, chance));
     }
+    if !rules.is_empty() && chance.one_in(8) {
+        rules.push(chance.of(&rules));
+    }
     chance.shuffle(&mut rules);
     rules
 }

@@ -5,7 +5,7 @@ use trials::refusals::{self, check, draw, Drawn, Outcome, Sheets};
 use trials::{library, rewrite, sheets};
 
 /// Cases whose rounds take more things than this are set aside.
-const MOST_THINGS: usize = 3_000;
+const MOST_THINGS: usize = 6_000;
 
 #[derive(Default)]
 pub struct Tally {
@@ -20,6 +20,7 @@ pub struct Tally {
     never_end: u64,
     need_merge: u64,
     most_members: usize,
+    most_answers: usize,
     pub differences: usize,
 }
 
@@ -114,6 +115,7 @@ impl Tally {
         let accepted = &drawn.accepted;
         self.accepted += 1;
         self.most_members = self.most_members.max(accepted.members.len());
+        self.most_answers = self.most_answers.max(drawn.answers.len());
         self.never_end += u64::from(drawn.never_ends);
         let by_union = drawn.from_facts(accepted.members.iter().map(|member| &member.question));
         if by_union != drawn.answers {
@@ -182,8 +184,8 @@ impl Tally {
             self.cases, self.calls, self.set_aside
         );
         println!(
-            "accepted {}, the largest union {} members",
-            self.accepted, self.most_members
+            "accepted {}, the largest union {} members, the longest list {} answers",
+            self.accepted, self.most_members, self.most_answers
         );
         let mut enough = true;
         let mut count = |what: &str, got: u64, least: u64| {
