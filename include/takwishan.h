@@ -4,8 +4,8 @@
  *
  * A sheet is a pointer and a length in bytes. The pointer must not be null and must be good for reading so many bytes, also where the
  * length is 0; nothing may write them during the call. The list must be good for writing and must not overlap a sheet. Every sheet of
- * every length and every content is answered: none of these functions fails, allocates, or keeps a pointer. They need some 300 KB of stack
- * and may be called from several threads at once.
+ * every length and every content is answered: none of these functions fails, allocates, or keeps a pointer. They need less than half a
+ * megabyte of stack and may be called from several threads at once.
  */
 #ifndef TAKWISHAN_H
 #define TAKWISHAN_H
@@ -43,7 +43,7 @@ enum takwishan_number {
     TAKWISHAN_ACCEPTED = 0,
     /* The rule sheet's length is no multiple of 4 or exceeds 2,048 bytes. */
     TAKWISHAN_RULE_SHEET_LENGTH = 1,
-    /* A rule has a kind or form not named. */
+    /* A rule has a kind or form not named above. (01 names kind 1 with forms 0 to 2, and kind 2 with left form 0 and right form 0 or 1.) */
     TAKWISHAN_NO_SUCH_RULE = 2,
     /* The question has a count out of range, a set bit that must be zero, a variable above 31, or a wrong length. */
     TAKWISHAN_QUESTION_MALFORMED = 3,

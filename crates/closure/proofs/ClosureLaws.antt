@@ -83,6 +83,9 @@ module _ (rules : List ℕ) (count : ℕ) (r : QueryFound) (q : QueryWords) (i k
   pub rule-leads : (b : Bool) (union : UCQ) → b ≡ leadsOutside union (queryFound r) → b ≡ ruleOut (rulesIn rules count) union (queryOf q) i k
   rule-leads b union e = e ∙ ap (leadsOutside union) (rule-steps rules count within r q i k h f)
 
+  pub rule-nowhere : (union : UCQ) → r .found ≡ false → false ≡ ruleOut (rulesIn rules count) union (queryOf q) i k
+  rule-nowhere union g = rule-leads false union (leads-nowhere r union g)
+
 -- ---- a rule that stands twice
 
 module _ (p : ℕ → Bool) where
@@ -208,4 +211,4 @@ module _ (rules : List Rule) (table : List ℕ) (n : ℕ) where
       e ∙ sym (ap (any (λ m. any (outside (unionIn table n)) (steps rules (m .query)))) (union-from table n 0)
       ∙ any-map (λ m. any (outside (unionIn table n)) (steps rules (m .query))) (memberAt table) (numbers 0 (n - 0)))
 
-pub ruleset laws = (needs, scans, rows, leads-inside, leads-out, leads-nowhere, rule-leads, none-yet, none-longer, word-found, word-later, no-second-try, merges-begin, merge-distinct, merge-leads, atoms-lead, pairs-lead, is-eleven)
+pub ruleset laws = (needs, scans, rows, leads-inside, leads-out, leads-nowhere, rule-leads, rule-nowhere, none-yet, none-longer, word-found, word-later, no-second-try, merges-begin, merge-distinct, merge-leads, atoms-lead, pairs-lead, is-eleven)

@@ -53,7 +53,8 @@ fn repeated(rules: &[u64], k: usize) -> bool
     false
 }
 
-// Whether rule k leads outside from atom i, where no earlier one does: a word that stands earlier needs no second try.
+// Whether rule k leads outside from atom i, where no earlier one does: what a word gives that stands earlier needs no second
+// comparison.
 fn rule_leads_outside(
     rules: &[u64],
     count: usize,
@@ -67,10 +68,15 @@ fn rule_leads_outside(
     requires { ⌜ (count ≤ length (now rules)) × (k < count) × Small q × Rows (now table) n × Keys (now table) n (now keys) × NoneBefore (λ j. leadsOutside (unionIn (now table) n) (ruleStep (rulesIn (now rules) count) (queryOf q) i j)) k ⌝ }
     ensures { λ r. ⌜ r ≡ leadsOutside (unionIn (now (table .entry)) n) (ruleStep (rulesIn (now (rules .entry)) count) (queryOf q) i k) ⌝ }
 {
-    if repeated(rules, k) {
-        false
+    let step = rule_step(q, i, rules[k]);
+    if step.found {
+        if repeated(rules, k) {
+            false
+        } else {
+            leads_outside(step, table, n, keys)
+        }
     } else {
-        leads_outside(rule_step(q, i, rules[k]), table, n, keys)
+        false
     }
 }
 

@@ -1,12 +1,15 @@
 -- What the program prints for four sheets, from their bytes alone, and that it is what 01 says.
-use mathlib.Core.Path.{_≡_}
+use mathlib.Core.Path.{_≡_, ap, ap₂}
 use mathlib.Core.Logic.{_≢_}
-use Prim.Native.Nat.{ℕ, _*_, _≤_}
+use Prim.Native.Nat.{ℕ, _/_}
+use native.Mathlib.Omega.{arith}
 use mathlib.Core.List.{List, [], _∷_, _++_, flatMap}
-use lib.ListN.{length}
+use lib.ListN.{length, take}
+use lib.Seq.{getD-take}
 use Rattle.sheets.specs.Format.{termCount}
 use Rattle.answering.specs.Drawing.{theAnswers, Outcome, outcome}
 use Rattle.report.specs.Report.{newline, refusedText, acceptedText, decimalOf, line, report}
+use Rattle.takwishan.specs.Laws.Cut.{cut-same}
 use Rattle.takwishan.specs.Laws.Printing as laws
 
 module _ (rules question union facts : List ℕ) where
@@ -29,3 +32,12 @@ module _ (rules question union facts : List ℕ) where
       → textFor ≡ acceptedText ++ (decimalOf (length (theAnswers union facts)) ++ (newline ∷ [])) ++ flatMap line (theAnswers union facts)
   unfolding textFor
   accepted-text h = laws.accepted-report rules question union facts 16384 h
+
+-- "one over its limit (2,048, 61, 33,282 and 60,000 bytes in that order) meets 1, 3, 6 or 12": the program reads one byte beyond each limit, and
+-- prints what it would print for the whole files.
+pub read-enough : (rules question union facts : List ℕ)
+    → textFor (take 2049 rules) (take 62 question) (take 33283 union) (take 60001 facts) ≡ textFor rules question union facts
+unfolding textFor
+read-enough rules question union facts =
+    ap₂ (λ (o : Outcome) (n : ℕ). report (o .number) (o .count) n (o .list)) (cut-same 16384 rules question union facts)
+    (ap (λ n. n / 16) (getD-take 62 question 0 0 (omega arith)))

@@ -1,22 +1,7 @@
 use Rattle.takwishan.proofs.ProgramLaws.{laws, answers-fit, text-fits, text-put}
-use borrow.Author.Needs.{needs}
 use Rattle.takwishan.proofs.text.put_answers.Statement.{statement}
 use Rattle.takwishan.proofs.text.put_answers.Tie as tie
-use Rattle.takwishan.proofs.text.put_answers.Reads as reads
-use Rattle.takwishan.proofs.text.put_answers.Lts as lts
-use Rattle.answering.proofs.answer.Reads as answer-reads
-use Rattle.report.proofs.put_report.Reads as put-report-reads
-use Rattle.takwishan.proofs.text.term_count.Reads as term-count-reads
 
--- src/text.rt:41:9
-answer-requires : tie.Need-answer-requires
-answer-requires c κs = search laws
-
--- src/text.rt:42:47
-term-count-requires : tie.Need-term-count-requires
-term-count-requires c κs = search laws
-
--- src/text.rt:42:5
 put-report-requires : tie.Need-put-report-requires
 put-report-requires c κs =
     let at-answer = c .before .before .before .before .before in
@@ -32,15 +17,6 @@ put-report-requires c κs =
           (start .args .text .now) (start .pre .1),
     )
 
--- src/text.rt:29:1
-same-length : tie.Need-same-length
-same-length c = search laws
-
--- src/text.rt:29:1
-same-length-2 : tie.Need-same-length-2
-same-length-2 c = search laws
-
--- src/text.rt:29:1
 returns : tie.Need-returns
 returns c =
     let at-report = c .before .before in
@@ -57,12 +33,4 @@ returns c =
     )
 
 pub put-answers-spec : {M : Type 1} → statement M
-put-answers-spec =
-    tie.close
-    (tie.spec
-    answer-requires
-    term-count-requires
-    put-report-requires
-    same-length
-    same-length-2
-    returns)
+put-answers-spec = tie.close (tie.spec (λ c κs. search laws) (λ c κs. search laws) put-report-requires (λ c. search laws) (λ c. search laws) returns)
