@@ -5,7 +5,7 @@ use Prim.Native.Nat.{ℕ, zero, suc, _+_, _-_, _≤_, _<_}
 use native.Mathlib.Nat.{eq-or-lt-of-le}
 use native.Mathlib.Omega.{arith}
 use mathlib.Core.Bool.{Bool, true, false, not, _||_, or-false}
-use mathlib.Core.Option.{Option, some}
+use mathlib.Core.Option.{Option, none, some}
 use mathlib.Core.List.{List, [], _∷_, map, flatMap}
 use lib.ListN.{length, getD, take, set, length-map}
 use lib.Dec.{eqb}
@@ -22,6 +22,8 @@ use Rattle.theory.specs.Laws.Steps.{ruleStep-iff, mergeStep-iff}
 use Rattle.words.specs.Records.{ruleOf, atomOf}
 use Rattle.words.specs.Words.{queryOf, Small, rulesIn, unionIn}
 use Rattle.words.specs.declared.QueryWords.{QueryWords}
+use Rattle.rule_on_atom.specs.RuleOnAtom.{names, unnamed-none}
+use Rattle.rewriting.proofs.StepLaws.{atom-at}
 use Rattle.rewriting.specs.declared.steps.QueryFound.{QueryFound}
 use Rattle.rewriting.specs.StepResults.{queryFound}
 use Rattle.theory.specs.Laws.Lists.{any-append, any-map, any-flatMap}
@@ -83,8 +85,13 @@ module _ (rules : List ℕ) (count : ℕ) (r : QueryFound) (q : QueryWords) (i k
   pub rule-leads : (b : Bool) (union : UCQ) → b ≡ leadsOutside union (queryFound r) → b ≡ ruleOut (rulesIn rules count) union (queryOf q) i k
   rule-leads b union e = e ∙ ap (leadsOutside union) (rule-steps rules count within r q i k h f)
 
-  pub rule-nowhere : (union : UCQ) → r .found ≡ false → false ≡ ruleOut (rulesIn rules count) union (queryOf q) i k
-  rule-nowhere union g = rule-leads false union (leads-nowhere r union g)
+-- a rule for another predicate gives no step
+pub rule-passed : (rules : List ℕ) (count : ℕ) (q : QueryWords) (i k : ℕ) (union : UCQ) (b : Bool) → count ≤ length rules → k < count → length (q .atoms) ≡ 8 → Small q → i < q .size → b ≡ names (ruleOf (getD rules k 0)) (atomOf 24 (getD (q .atoms) i 0)) → b ≡ false → false ≡ ruleOut (rulesIn rules count) union (queryOf q) i k
+unfolding ruleStep any toList
+rule-passed rules count q i k union b within h l s g e f =
+    let none-made = unnamed-none (queryOf q) (ruleOf (getD rules k 0)) (atomOf 24 (getD (q .atoms) i 0)) (sym e ∙ f) in
+    let no-step : ruleStep (rulesIn rules count) (queryOf q) i k ≡ none = simp (rule-there rules count within k h, atom-at q i l s g, ← none-made) in
+    sym (ap (leadsOutside union) no-step)
 
 -- ---- a rule that stands twice
 
@@ -211,4 +218,4 @@ module _ (rules : List Rule) (table : List ℕ) (n : ℕ) where
       e ∙ sym (ap (any (λ m. any (outside (unionIn table n)) (steps rules (m .query)))) (union-from table n 0)
       ∙ any-map (λ m. any (outside (unionIn table n)) (steps rules (m .query))) (memberAt table) (numbers 0 (n - 0)))
 
-pub ruleset laws = (needs, scans, rows, leads-inside, leads-out, leads-nowhere, rule-leads, rule-nowhere, none-yet, none-longer, word-found, word-later, no-second-try, merges-begin, merge-distinct, merge-leads, atoms-lead, pairs-lead, is-eleven)
+pub ruleset laws = (needs, scans, rows, leads-inside, leads-out, leads-nowhere, rule-leads, rule-passed, none-yet, none-longer, word-found, word-later, no-second-try, merges-begin, merge-distinct, merge-leads, atoms-lead, pairs-lead, is-eleven)

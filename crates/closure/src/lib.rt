@@ -4,6 +4,7 @@ use rewriting::steps::QueryFound;
 use rewriting::steps::merge_step;
 use rewriting::steps::rule_step;
 use rows::load;
+use rule_on_atom::names;
 use words::QueryWords;
 ghost use mathlib.Core.Path.{_≡_};
 ghost use mathlib.Core.Bool.{true};
@@ -53,8 +54,8 @@ fn repeated(rules: &[u64], k: usize) -> bool
     false
 }
 
-// Whether rule k leads outside from atom i, where no earlier one does: what a word gives that stands earlier needs no second
-// comparison.
+// Whether rule k leads outside from atom i, where no earlier one does: a rule for another predicate makes nothing of the atom, and a
+// word that stands earlier needs no second try.
 fn rule_leads_outside(
     rules: &[u64],
     count: usize,
@@ -65,15 +66,16 @@ fn rule_leads_outside(
     n: usize,
     keys: &[u64],
 ) -> bool
-    requires { ⌜ (count ≤ length (now rules)) × (k < count) × Small q × Rows (now table) n × Keys (now table) n (now keys) × NoneBefore (λ j. leadsOutside (unionIn (now table) n) (ruleStep (rulesIn (now rules) count) (queryOf q) i j)) k ⌝ }
+    requires { ⌜ (count ≤ length (now rules)) × (k < count) × Small q × (i < q .size) × Rows (now table) n × Keys (now table) n (now keys) × NoneBefore (λ j. leadsOutside (unionIn (now table) n) (ruleStep (rulesIn (now rules) count) (queryOf q) i j)) k ⌝ }
     ensures { λ r. ⌜ r ≡ leadsOutside (unionIn (now (table .entry)) n) (ruleStep (rulesIn (now (rules .entry)) count) (queryOf q) i k) ⌝ }
 {
-    let step = rule_step(q, i, rules[k]);
-    if step.found {
+    let rule = rules[k];
+    let atoms = q.atoms;
+    if names(rule, atoms[i]) {
         if repeated(rules, k) {
             false
         } else {
-            leads_outside(step, table, n, keys)
+            leads_outside(rule_step(q, i, rule), table, n, keys)
         }
     } else {
         false
@@ -90,7 +92,7 @@ fn rules_lead_outside(
     n: usize,
     keys: &[u64],
 ) -> bool
-    requires { ⌜ (count ≤ length (now rules)) × Small q × Rows (now table) n × Keys (now table) n (now keys) ⌝ }
+    requires { ⌜ (count ≤ length (now rules)) × Small q × (i < q .size) × Rows (now table) n × Keys (now table) n (now keys) ⌝ }
     ensures { λ r. ⌜ r ≡ any (λ k. leadsOutside (unionIn (now (table .entry)) n) (ruleStep (rulesIn (now (rules .entry)) count) (queryOf q) i k)) (numbers 0 count) ⌝ }
 {
     let mut k: usize = 0;

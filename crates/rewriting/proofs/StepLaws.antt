@@ -273,7 +273,7 @@ pub still-small : (q p : QueryWords) → Small q → p ≡ q → Small p
 still-small q p s e = subst Small (sym e) s
 
 module _ (q : QueryWords) (i : ℕ) where
-  atom-at : length (q .atoms) ≡ 8 → Small q → i < q .size → getElem? (queryOf q .atoms) i ≡ some (atomOf 24 (getD (q .atoms) i 0))
+  pub atom-at : length (q .atoms) ≡ 8 → Small q → i < q .size → getElem? (queryOf q .atoms) i ≡ some (atomOf 24 (getD (q .atoms) i 0))
   unfolding queryOf
   atom-at l s h = at-word (atomOf 24) (q .size) (q .atoms) i h (omega (arith, s .few-atoms))
 

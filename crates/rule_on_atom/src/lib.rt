@@ -54,8 +54,8 @@ fn right_kind(rule: u64) -> u64
     1
 }
 
-// Whether the rule's right side has the atom's predicate.
-fn names(rule: u64, a: u64) -> bool
+// Whether the rule's right side has the atom's predicate. A rule whose right side has another makes nothing of the atom.
+pub fn names(rule: u64, a: u64) -> bool
     ensures { λ r. ⌜ r ≡ namesIn (ruleOf rule) (atomOf 24 a) ⌝ }
 {
     if rule % 0x1000 == number_of(a) {
