@@ -271,13 +271,18 @@ accepted-text number count terms r s list out b c zeroed p q =
     both-put out b c (acceptedText ++ (decimalOf count ++ (newline ∷ []))) (linesAt list 0 terms count) 0 r s p q .text
     ∙ sym (ap (λ (b : Bool). cond b (acceptedText ++ (decimalOf count ++ (newline ∷ [])) ++ linesAt list 0 terms count) (refusedText ++ (decimalOf number ++ (newline ∷ [])))) (eq-eqb number 0 zeroed))
 
--- the lines are at most three times as long as the list
-pub lines-fit : (count terms r : ℕ) (list out b p : List ℕ) → 2 * terms * count ≤ length list → 30 + 3 * length list ≤ length out
+-- what is accepted has its answers in the list
+pub list-fits : (number count terms : ℕ) (list : List ℕ) → number ≡ 0 → (number ≡ 0 → 2 * terms * count ≤ length list) → 2 * terms * count ≤ length list
+list-fits number count terms list zeroed within = within zeroed
+
+-- and its lines are at most three times as long as the list
+pub lines-fit : (number count terms r : ℕ) (list out b p : List ℕ) → number ≡ 0 → (number ≡ 0 → 2 * terms * count ≤ length list) → 30 + 3 * length list ≤ length out
     → Put out 0 p b r → r ≤ 30 → r + 6 * terms * count ≤ length b
-lines-fit count terms r list out b p h g f k =
+lines-fit number count terms r list out b p zeroed within g f k =
+    let h : 2 * terms * count ≤ length list = within zeroed in
     let l = f .long in
     let e : 6 * terms ≡ 3 * (2 * terms) = omega arith in
     let d : 6 * terms * count ≡ 3 * (2 * terms * count) = ap (λ m. m * count) e ∙ mul-assoc 3 (2 * terms) count in
     omega arith
 
-pub ruleset laws = (needs, byte-put, copy-put, digits-fit, decimal-put, object-fits, separator-fits, object-put, object-ends, line-starts, line-goes-on, line-ends, lines-start, lines-go-on, lines-end, one-read, rest-read, one-fits, rest-fits, named-fits, numbered-fits, first-put, first-ends, put-counts, refused-text, accepted-text)
+pub ruleset laws = (needs, byte-put, copy-put, digits-fit, decimal-put, object-fits, separator-fits, object-put, object-ends, line-starts, line-goes-on, line-ends, lines-start, lines-go-on, lines-end, one-read, rest-read, one-fits, rest-fits, named-fits, numbered-fits, first-put, first-ends, put-counts, refused-text, accepted-text, list-fits, lines-fit)

@@ -56,8 +56,9 @@ fn put_object(list: &[u8], at: usize, last: bool, out: &mut [u8], end: usize) ->
     requires { ⌜ (at + 2 ≤ length (now list)) × (end + 6 ≤ length (now out)) ⌝ }
     ensures { λ r. ⌜ Put (now (out .entry)) end (decimalOf (objectAt (now (list .entry)) at) ++ (cond last newline space ∷ [])) (now (out .exit)) r × (r ≤ end + 6) ⌝ }
 {
-    let object = 256 * wide(list[at]) + wide(list[at + 1]);
-    let digits = put_decimal(out, end, object);
+    let high = wide(list[at]);
+    let low = wide(list[at + 1]);
+    let digits = put_decimal(out, end, 256 * high + low);
     put_byte(out, digits, separator(last))
 }
 

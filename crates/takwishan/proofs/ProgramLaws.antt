@@ -47,4 +47,4 @@ module _ (rules question union facts entry list : List ℕ) (number count terms 
       ∙ ap₂ (λ x y. report (outcome rules question union facts (length entry) .number) (outcome rules question union facts (length entry) .count) x y) t l
       ∙ ap (λ m. report (outcome rules question union facts m .number) (outcome rules question union facts m .count) (getD question 0 0 / 16) (outcome rules question union facts m .list)) room
 
-pub ruleset laws = (needs, counted, no-bytes, no-terms)
+pub ruleset laws = (needs, counted, no-bytes, no-terms, answers-fit, text-fits, text-put)
