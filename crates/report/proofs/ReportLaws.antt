@@ -1,6 +1,6 @@
 -- How pieces add up: a byte, a copy, a number, an object, a line and its rest, the lines and their rest, and the whole text.
 use mathlib.Core.Path.{_≡_, refl, sym, ap, ap₂, _∙_, subst}
-use Prim.Native.Nat.{ℕ, zero, suc, _+_, _*_, _-_, _≤_, _<_}
+use Prim.Native.Nat.{ℕ, zero, suc, _+_, _*_, _-_, _^_, _≤_, _<_}
 use native.Mathlib.Numerals.{add-one}
 use native.Mathlib.Nat.{mul-suc, mul-assoc}
 use native.Mathlib.Omega.{arith}
@@ -12,6 +12,8 @@ use lib.Seq.{take-suc-set, take-length, take-all, length-take-le, take-at}
 use borrow.Rule.Slice.PartMut.{midOf, postOf, putMid}
 use borrow.Author.Needs.{needs}
 use borrow.Author.Tests.{eq-eqb, ne-eqb}
+use mir.Syntax.{w64}
+use mir.Val.{Fits}
 use Rattle.io.specs.Counts.{Counts}
 use Rattle.io.specs.Digits.{digits, Fewest}
 use Rattle.report.specs.Report.{decimalOf, separator, objectAt, objectsAt, line, linesAt, newline, space, refusedText, acceptedText, report}
@@ -212,6 +214,13 @@ one-part m (suc k) h =
 pub one-read : (from terms left n : ℕ) → from + 2 * terms * left ≤ n → 0 < left → from + 2 * terms ≤ n
 one-read from terms left n h g = omega (arith, one-part (2 * terms) left g)
 
+-- and its end can be counted
+pub step-fits : (from terms left : ℕ) (list : List ℕ) → from + 2 * terms * left ≤ length list → 0 < left → length list * 1 < 2 ^ 63 → Fits w64 (2 * terms)
+step-fits from terms left list h g f = let l : from + 2 * terms ≤ length list = one-read from terms left (length list) h g in omega arith
+
+pub from-fits : (from terms left : ℕ) (list : List ℕ) → from + 2 * terms * left ≤ length list → 0 < left → length list * 1 < 2 ^ 63 → Fits w64 (from + 2 * terms)
+from-fits from terms left list h g f = let l : from + 2 * terms ≤ length list = one-read from terms left (length list) h g in omega arith
+
 pub rest-read : (from terms left n : ℕ) → from + 2 * terms * left ≤ n → 0 < left → from + 2 * terms + 2 * terms * (left - 1) ≤ n
 rest-read from terms left n h g = omega (arith, one-part (2 * terms) left g)
 
@@ -285,4 +294,4 @@ lines-fit number count terms r list out b p zeroed within g f k =
     let d : 6 * terms * count ≡ 3 * (2 * terms * count) = ap (λ m. m * count) e ∙ mul-assoc 3 (2 * terms) count in
     omega arith
 
-pub ruleset laws = (needs, byte-put, copy-put, digits-fit, decimal-put, object-fits, separator-fits, object-put, object-ends, line-starts, line-goes-on, line-ends, lines-start, lines-go-on, lines-end, one-read, rest-read, one-fits, rest-fits, named-fits, numbered-fits, first-put, first-ends, put-counts, refused-text, accepted-text, list-fits, lines-fit)
+pub ruleset laws = (needs, byte-put, copy-put, digits-fit, decimal-put, object-fits, separator-fits, object-put, object-ends, line-starts, line-goes-on, line-ends, lines-start, lines-go-on, lines-end, one-read, step-fits, from-fits, rest-read, one-fits, rest-fits, named-fits, numbered-fits, first-put, first-ends, put-counts, refused-text, accepted-text, list-fits, lines-fit)
