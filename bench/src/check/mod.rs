@@ -14,7 +14,7 @@ pub mod words;
 
 pub use key::key_of;
 use std::cell::Cell;
-use steps::{merge_step, rule_step};
+use steps::{merge_step, names, rule_step};
 use words::{read_question, read_rules, Query, Rule};
 
 use crate::{plain, MOST_MEMBERS, PARTNERS, ROW};
@@ -101,10 +101,12 @@ impl Union<'_> {
         self.members.iter().any(|Member { query, .. }| {
             let size = query.atoms().len();
             let by_rule = (0..size).any(|i| {
-                // a rule that stands earlier needs no second try
+                // a rule for another predicate makes nothing, and one that stands earlier needs no second try
                 let mut rules = self.rules.iter().enumerate();
                 rules.any(|(k, rule)| {
-                    !self.rules[..k].contains(rule) && self.outside(rule_step(query, i, *rule), counts)
+                    names(*rule, query.atoms()[i])
+                        && !self.rules[..k].contains(rule)
+                        && self.outside(rule_step(query, i, *rule), counts)
                 })
             });
             by_rule

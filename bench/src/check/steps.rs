@@ -14,10 +14,15 @@ fn fresh(query: &Query) -> Term {
     (!query.variables()).trailing_zeros()
 }
 
+/// Whether the rule's right side has the atom's predicate.
+pub fn names(rule: Rule, atom: Atom) -> bool {
+    let concept = rule.kind() == 1 && rule.right_form() == 0;
+    rule.right() == atom.number() && concept != atom.is_role()
+}
+
 /// The atom that the rule makes of an atom of the query, if it fits.
 fn rewritten(query: &Query, rule: Rule, atom: Atom) -> Option<Atom> {
-    let concept = rule.kind() == 1 && rule.right_form() == 0;
-    if rule.right() != atom.number() || concept == atom.is_role() {
+    if !names(rule, atom) {
         return None;
     }
     if rule.kind() == 2 {
