@@ -1,18 +1,18 @@
 -- Numbers, terms and atoms: what the code computes of one word is what the definitions say.
 use mathlib.Core.Path.{_≡_, refl, sym, ap, _∙_, subst}
-use Prim.Native.Nat.{ℕ, _+_, _*_, _/_, _%_, _≤_, _<_}
+use Prim.Native.Nat.{ℕ, _+_, _*_, _%_, _≤_, _<_}
 use native.Mathlib.Nat.{add-zero, mul-le-mul-left, mul-le-mul-right}
 use native.Mathlib.Decide.{ℕ-discrete}
 use native.Mathlib.Omega.{arith}
 use mathlib.Core.Bool.{Bool, true, false}
-use mathlib.Core.List.{List, List·Memᴰ·head, List·Memᴰ·tail}
+use mathlib.Core.List.{List}
 use lib.Dec.{eqb}
 use lib.ListN.{getD, set, length-set}
 use lib.Seq.{getD-set-same, getD-set-other}
 use borrow.Author.Needs.{needs}
-use borrow.Author.Tests.{eq-eqb, ne-eqb, eqb-true, eqb-false}
-use Rattle.theory.specs.Lists.{_∈_, pick}
-use Rattle.theory.specs.Syntax.{Term, var, const, Atom, concept, role, args, sameTerm}
+use borrow.Author.Tests.{eq-eqb, ne-eqb}
+use Rattle.theory.specs.Lists.{pick}
+use Rattle.theory.specs.Syntax.{Term, var, Atom, concept, role, sameTerm}
 use Rattle.words.specs.Records.{field, termOf, atomOf}
 use Rattle.words.specs.LowVariables.{LowTerm, concept-atom, role-atom, first-low, second-low, variable-word, object-high, object-term}
 use Rattle.key.specs.Key.{scramble, top, mix, mixAtom, given, givenBy, shapeBy}

@@ -1,14 +1,14 @@
 -- Terms and atoms as words: what the code of words.rt computes is what the definitions say.
-use mathlib.Core.Path.{_≡_, refl, sym, ap, _∙_}
+use mathlib.Core.Path.{_≡_, sym, _∙_}
 use Prim.Native.Nat.{ℕ, _+_, _*_, _/_, _%_, _≤_, _<_}
 use native.Mathlib.Omega.{arith}
-use mathlib.Core.Bool.{Bool, true, false, _&&_, _||_, and-true, and-assoc, or-false}
+use mathlib.Core.Bool.{Bool, true, false}
 use mathlib.Core.List.{List}
 use lib.Dec.{eqb, ltb}
 use borrow.Author.Needs.{needs}
-use borrow.Author.Tests.{eq-eqb, ne-eqb, lt-ltb, le-ltb, eqb-true, eqb-false}
-use Rattle.theory.specs.Lists.{pick, any}
-use Rattle.theory.specs.Syntax.{Term, var, const, concept, role, args, sameTerm, sameAtom}
+use borrow.Author.Tests.{eq-eqb, ne-eqb, lt-ltb, le-ltb}
+use Rattle.theory.specs.Lists.{pick}
+use Rattle.theory.specs.Syntax.{concept, role}
 use Rattle.words.specs.Records.{field, termOf, atomOf}
 use Rattle.sheets.specs.Partners.{isHigher, lower, atomAsRead}
 use Rattle.sheets.specs.Refusals.{termSound, answerSound, atomSound}

@@ -1,7 +1,7 @@
 -- What the program writes for an outcome. 01: 'It prints "refused N", or "accepted N" with the count, then a line per answer, objects in
 -- decimal with single spaces, and no line for the empty tuple.' A text is the list of its ASCII codes; every line ends in a newline.
 use Prim.Native.Nat.{ℕ, zero, suc, _+_, _*_, _/_, _%_}
-use mathlib.Core.Bool.{Bool, cond}
+use mathlib.Core.Bool.{cond}
 use mathlib.Core.List.{List, [], _∷_, _++_}
 use lib.Dec.{eqb, ltb}
 use lib.ListN.{getD}

@@ -10,6 +10,7 @@ use lib.Seq.{length-take-le, getD-take}
 use Rattle.theory.specs.Lists.{At, numbers}
 use Rattle.words.specs.Records.{ruleOf}
 use Rattle.words.specs.Words.{rulesIn, unionIn}
+use Rattle.words.specs.LowVariables.{drop-map}
 use Rattle.rows.specs.Rows.{Row, Rows, rowAt, memberAt}
 
 -- ---- rows
@@ -45,15 +46,24 @@ drop-numbers a (suc n) (suc i) =
     let d : suc a + i ≡ a + suc i = omega arith in
     drop-numbers (suc a) n i ∙ rw (e, d)
 
-drop-map : {X Y : Type 0} (f : X → Y) (i : ℕ) (xs : List X) → drop i (map f xs) ≡ map f (drop i xs)
-drop-map f zero xs = refl
-drop-map f (suc i) [] = refl
-drop-map f (suc i) (x ∷ xs) = drop-map f i xs
-
 -- the members from number i on
 pub union-from : (table : List ℕ) (n i : ℕ) → drop i (unionIn table n) ≡ map (memberAt table) (numbers i (n - i))
 unfolding unionIn
 union-from table n i = drop-map (memberAt table) i (numbers 0 n) ∙ ap (map (memberAt table)) (drop-numbers 0 n i ∙ ap (λ k. numbers k (n - i)) (zero-add i))
+
+-- member i, and those after it
+pub next-member : (table : List ℕ) (n i : ℕ) → i < n → drop i (unionIn table n) ≡ memberAt table i ∷ drop (i + 1) (unionIn table n)
+unfolding numbers
+next-member table n i h =
+    let e : n - i ≡ suc (n - (i + 1)) = omega arith in
+    let d : suc i ≡ i + 1 = omega arith in
+    union-from table n i ∙ ap (λ k. map (memberAt table) (numbers i k)) e
+    ∙ ap (λ k. memberAt table i ∷ map (memberAt table) (numbers k (n - (i + 1)))) d
+    ∙ ap (λ ms. memberAt table i ∷ ms) (sym (union-from table n (i + 1)))
+
+pub no-member : (table : List ℕ) (n i : ℕ) → n ≤ i → drop i (unionIn table n) ≡ []
+unfolding numbers
+no-member table n i h = let e : n - i ≡ 0 = omega arith in union-from table n i ∙ ap (λ k. map (memberAt table) (numbers i k)) e
 
 map-at : {X Y : Type 0} (f : X → Y) (xs : List X) (i : ℕ) (x : X) → At xs i x → At (map f xs) i (f x)
 map-at f [] i x e = absurd (let z : _≡_ {A = ℕ} 0 1 = cc in omega arith)

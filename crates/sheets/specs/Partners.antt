@@ -2,12 +2,12 @@
 -- forms 1 and 2 change places, and in kind 2 each higher role flips the right form." A role at or above the table's length has no
 -- partner. The table is a parameter; `partners01` is 01's.
 use Prim.Native.Nat.{ℕ}
-use mathlib.Core.Bool.{Bool, true, false, xor}
+use mathlib.Core.Bool.{Bool, xor}
 use mathlib.Core.List.{List, [], _∷_, map}
 use lib.Dec.{ltb}
 use lib.ListN.{getD}
 use Rattle.theory.specs.Lists.{pick}
-use Rattle.theory.specs.Syntax.{Atom, concept, role, Basic, named, has, hasInverse, Rule, conceptInclusion, roleInclusion, Query, Member, UCQ, Fact, oriented}
+use Rattle.theory.specs.Syntax.{Atom, concept, role, Basic, named, has, hasInverse, Rule, conceptInclusion, roleInclusion, Query, Member, oriented}
 
 -- "A constant table of 16 role partners: 0 and 1 (drives, driven by), 2 and 3 (feeds, fed by), 4 and 5 (part of, has part), 6 and 7
 -- (opens, opened by); 8 to 15 are entered as their own"

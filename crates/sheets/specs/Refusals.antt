@@ -1,19 +1,19 @@
 -- 01, "What the desk turns back": refusals 1 to 13, as tests on the sheets, in one list.
 use mathlib.Core.Path.{_≡_}
-use Prim.Native.Nat.{ℕ, zero, suc, _+_, _*_, _/_, _%_, _^_}
+use Prim.Native.Nat.{ℕ, _+_, _*_, _/_, _%_, _^_}
 use mathlib.Core.Bool.{Bool, true, false, not, _&&_, _||_}
-use mathlib.Core.Option.{Option, none, some}
-use mathlib.Core.List.{List, [], _∷_, _++_, map}
+use mathlib.Core.Option.{Option, none}
+use mathlib.Core.List.{List, [], _∷_, map}
 use lib.Dec.{eqb, leb, ltb}
 use lib.ListN.{length, take, drop}
 use Rattle.theory.specs.Lists.{pick, any, all, numbers}
 use Rattle.theory.specs.Refusals.{firstRefusal}
 unfoldable pub use Rattle.theory.specs.Refusals.{numberOf}
-use Rattle.theory.specs.Syntax.{Term, var, const, Atom, Rule, Query, Member, UCQ, Fact, places, sameTerm, sameAtom}
+use Rattle.theory.specs.Syntax.{Term, var, const, Atom, Rule, Query, UCQ, Fact, places, sameTerm, sameAtom}
 use Rattle.theory.specs.Union.{refuses7, refuses8, refuses9, refuses10, refuses11}
 use Rattle.sheets.specs.Bits.{numberAt}
 use Rattle.words.specs.Records.{field}
-use Rattle.sheets.specs.Format.{ruleRecords, rulesOf, factRecords, factsOf, answerBytes, recordBytes, termCount, atomCount, questionLength, answerRecords, atomRecords, queryAt, memberCount, memberStart, memberAt, unionOf}
+use Rattle.sheets.specs.Format.{ruleRecords, rulesOf, factRecords, factsOf, recordBytes, termCount, atomCount, questionLength, answerRecords, atomRecords, queryAt, memberCount, memberStart, unionOf}
 use Rattle.sheets.specs.Partners.{atomAsRead, ruleAsRead, queryAsRead, memberAsRead}
 
 -- ---- 1 and 2: rules

@@ -1,11 +1,11 @@
 -- 01: "Variables are 0 to 31". What this says of words.
-use mathlib.Core.Path.{_≡_, sym, ap, _∙_, subst}
-use Prim.Native.Nat.{ℕ, suc, _+_, _/_, _%_, _≤_, _<_}
+use mathlib.Core.Path.{_≡_, refl, sym, ap, _∙_, subst}
+use Prim.Native.Nat.{ℕ, zero, suc, _+_, _/_, _%_, _≤_, _<_}
 use native.Mathlib.Numerals.{add-one}
 use native.Mathlib.Decide.{ℕ-discrete, decLt}
 use native.Mathlib.Omega.{arith}
 use mathlib.Core.List.{List, [], _∷_, _++_, map, map-append, List·Memᴰ·head, List·Memᴰ·tail, Memᴰ·append-right, Memᴰ·map, Memᴰ·cast}
-use lib.ListN.{length, getD, take, drop, drop-of-length-le}
+use lib.ListN.{length, getD, take, drop, length-take, drop-of-length-le}
 use lib.Seq.{split-at, drop-cons, take-suc, getD-take, length-take-le}
 use Rattle.theory.specs.Lists.{_∈_}
 use Rattle.theory.specs.Syntax.{Term, var, const, concept, role, args}
@@ -117,3 +117,18 @@ from-cons words i n h g =
 
 pub from-nil : (words : List ℕ) (i n : ℕ) → n ≤ i → n ≤ length words → from i n words ≡ []
 from-nil words i n h g = drop-of-length-le (take n words) {i = i} (rw (length-take-le n words g) h)
+
+-- the same for what the words hold
+pub drop-map : {X Y : Type 0} (f : X → Y) (i : ℕ) (xs : List X) → drop i (map f xs) ≡ map f (drop i xs)
+drop-map f zero xs = refl
+drop-map f (suc i) [] = refl
+drop-map f (suc i) (x ∷ xs) = drop-map f i xs
+
+module _ {X : Type 0} (f : ℕ → X) (words : List ℕ) (i n : ℕ) where
+  pub records-cons : n ≤ length words → i < n → drop i (map f (take n words)) ≡ f (getD words i 0) ∷ drop (i + 1) (map f (take n words))
+  records-cons l h =
+      drop-map f i (take n words) ∙ ap (map f) (from-cons words i n h l)
+      ∙ ap (λ xs. f (getD words i 0) ∷ xs) (sym (drop-map f (i + 1) (take n words)))
+
+  pub records-nil : n ≤ i → drop i (map f (take n words)) ≡ []
+  records-nil h = drop-map f i (take n words) ∙ ap (map f) (drop-of-length-le (take n words) {i = i} (rw (length-take n words) (omega arith)))

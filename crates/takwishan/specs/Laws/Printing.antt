@@ -1,7 +1,7 @@
 -- The report of an outcome: a line for each answer, read again from the bytes of the list.
 use mathlib.Core.Path.{_≡_, refl, sym, ap, ap₂, _∙_, subst}
 use mathlib.Core.Logic.{_≢_}
-use Prim.Native.Nat.{ℕ, zero, suc, _+_, _*_, _-_, _/_, _%_, _≤_, _<_}
+use Prim.Native.Nat.{ℕ, zero, _+_, _*_, _-_, _/_, _%_, _≤_, _<_}
 use native.Mathlib.Omega.{arith}
 use mathlib.Core.Bool.{Bool, true, false, cond}
 use lib.Dec.{eqb}
@@ -13,7 +13,7 @@ use Rattle.theory.specs.Lists.{_∈_}
 use Rattle.theory.specs.Laws.Lists.{here}
 use Rattle.sheets.specs.Format.{termCount}
 use Rattle.sheets.specs.Partners.{partners01}
-use Rattle.sheets.specs.AnswerList.{tupleSize, tupleBytes, listBytes}
+use Rattle.sheets.specs.AnswerList.{tupleBytes, listBytes}
 use Rattle.sheets.specs.Packing.{bytesOf, packRecords}
 use Rattle.sheets.specs.Laws.QuestionRefusals.{question-arity}
 use Rattle.answering.specs.Demands.{AcceptedFor, zero-accepts, zero-means as accepted-means}
