@@ -19,9 +19,12 @@ pub struct Drawn {
     pub count: usize,
 }
 
-/// So many seconds of turns, and at least so many turns, for each case.
-const SECONDS: f64 = 0.2;
+/// So many seconds of turns, and at least so many turns, for each case: drawing alone is a difference, which takes many turns to be told.
+const SECONDS: f64 = 1.0;
 const TURNS: usize = 4;
+
+/// So many seconds for sqlite3.
+const SQLITE_SECONDS: f64 = 0.2;
 
 /// Seconds of one case.
 struct Times {
@@ -101,7 +104,8 @@ fn times(case: &Case, desk: Option<&sql::Desk>) -> Times {
     let [answer, check, plain] = best;
     let sqlite = desk.map(|desk| {
         let once = desk.seconds(case, 1);
-        desk.seconds(case, (SECONDS / once) as usize + 3).min(once)
+        desk.seconds(case, (SQLITE_SECONDS / once) as usize + 3)
+            .min(once)
     });
     Times {
         answer,
