@@ -1,33 +1,26 @@
 // The library: a union checked against rules and question, answers drawn with it from facts, and a member shown.
-mod show;
-
-use crate::show::question_start;
 use drawing::Answers;
 use drawing::draw_members;
 use drawing::members::check_members;
 use drawing::refuse;
 use read_question::read_question;
 use read_rules::read_rules;
+use read_union::member_place;
 use records::partners::default_partners;
+use words::limits::MOST_RULES;
 ghost use mathlib.Core.Path.{_≡_};
-ghost use mathlib.Core.Logic.{_↔_};
-ghost use mathlib.Core.List.{List};
-ghost use Prim.Native.Nat.{ℕ, _+_, _*_, _-_, _≤_, _<_};
-ghost use lib.ListN.{length, take, drop, replicate};
-ghost use Rattle.theory.specs.Chase.{SecondReader};
-ghost use Rattle.theory.specs.Laws.Answers.{Before};
-ghost use Rattle.sheets.specs.AnswerList.{tupleSize};
-ghost use Rattle.answering.specs.Demands.{checkNumber, SoundAndAccepted, SoundFacts, theRules, theQuestion, theFacts};
-ghost use Rattle.answering.specs.Drawing.{outcome, bytesNeeded, termsOf, Registered, StandsAt, Listed};
-ghost use Rattle.answering.specs.Showing.{thePart, partStart};
+ghost use lib.ListN.{length};
+ghost use Rattle.answering.specs.Checking.{Checked};
+ghost use Rattle.answering.specs.Drawing.{Drawn};
+ghost use Rattle.answering.specs.Showing.{Shown};
+ghost use Rattle.answering.specs.TheSheets.{thePart};
 
 // Checks a union against rules and question: the number of the first refusal of 1 to 11 that applies, 0 where the union is accepted.
 pub fn check(rules: &[u8], question: &[u8], union: &[u8]) -> u32
-    ensures number { λ r. ⌜ r ≡ checkNumber (now (rules .entry)) (now (question .entry)) (now (union .entry)) ⌝ }
-    ensures accepted { λ r. ⌜ (r ≡ 0) ↔ SoundAndAccepted (now (rules .entry)) (now (question .entry)) (now (union .entry)) ⌝ }
+    ensures { λ r. ⌜ Checked (now (rules .entry)) (now (question .entry)) (now (union .entry)) r ⌝ }
 {
     let partners = default_partners();
-    let mut table = [0u64; 512];
+    let mut table = [0u64; MOST_RULES];
     let inclusions = read_rules(rules, &partners, &mut table);
     if inclusions.number != 0 {
         return inclusions.number;
@@ -42,33 +35,20 @@ pub fn check(rules: &[u8], question: &[u8], union: &[u8]) -> u32
 // The same for C and Rust, each sheet as pointer and length.
 #[no_mangle]
 pub extern "C" fn takwishan_check(rules: &[u8], question: &[u8], union: &[u8]) -> u32
-    ensures number { λ r. ⌜ r ≡ checkNumber (now (rules .entry)) (now (question .entry)) (now (union .entry)) ⌝ }
-    ensures accepted { λ r. ⌜ (r ≡ 0) ↔ SoundAndAccepted (now (rules .entry)) (now (question .entry)) (now (union .entry)) ⌝ }
+    ensures { λ r. ⌜ Checked (now (rules .entry)) (now (question .entry)) (now (union .entry)) r ⌝ }
 {
     check(rules, question, union)
 }
 
-// Draws the answers of an accepted union from facts into the list: the number of the first refusal of 1 to 14 that applies, or 0; the count,
-// and the list's bytes, as `outcome` has them. Where the number is 0 the list holds exactly the tuples of registered objects that the
-// question finds in some round from the facts under the rules, ascending, and zeros after them; on a refusal it is all zeros.
+// Draws the answers of an accepted union from facts into the list: the number of the first refusal of 1 to 14 that applies, or 0, and the
+// count. Where the number is 0 the list holds exactly the tuples of registered objects that the question finds in some round from the facts
+// under the rules, ascending, and zeros after them; on a refusal it is all zeros.
 pub fn answer(rules: &[u8], question: &[u8], union: &[u8], facts: &[u8], list: &mut [u8]) -> Answers
-    ensures outcome { λ r. ⌜ (r .number ≡ outcome (now (rules .entry)) (now (question .entry)) (now (union .entry)) (now (facts .entry)) (length (now (list .entry))) .number)
-        × (r .count ≡ outcome (now (rules .entry)) (now (question .entry)) (now (union .entry)) (now (facts .entry)) (length (now (list .entry))) .count)
-        × (now (list .exit) ≡ outcome (now (rules .entry)) (now (question .entry)) (now (union .entry)) (now (facts .entry)) (length (now (list .entry))) .list) ⌝ }
-    ensures zero { λ r. ⌜ (r .number ≡ 0) ↔ (SoundAndAccepted (now (rules .entry)) (now (question .entry)) (now (union .entry)) × SoundFacts (now (facts .entry))
-        × (bytesNeeded (now (question .entry)) (now (union .entry)) (now (facts .entry)) ≤ length (now (list .entry)))) ⌝ }
-    ensures short { λ r. ⌜ (r .number ≡ 14) ↔ (SoundAndAccepted (now (rules .entry)) (now (question .entry)) (now (union .entry)) × SoundFacts (now (facts .entry))
-        × (length (now (list .entry)) < bytesNeeded (now (question .entry)) (now (union .entry)) (now (facts .entry)))) ⌝ }
-    ensures readers { λ r. ⌜ (r .number ≡ 0 → (tuple : List ℕ) → Registered tuple
-        → Listed (now (list .exit)) (r .count) (termsOf (now (question .entry))) tuple ↔ SecondReader (theRules (now (rules .entry))) (theQuestion (now (question .entry))) (theFacts (now (facts .entry))) tuple) ⌝ }
-    ensures ascending { λ r. ⌜ (r .number ≡ 0 → (j k : ℕ) (t u : List ℕ) → Registered t → Registered u → j < k → k < r .count
-        → StandsAt (now (list .exit)) (termsOf (now (question .entry))) j t → StandsAt (now (list .exit)) (termsOf (now (question .entry))) k u → Before t u) ⌝ }
-    ensures rest { λ r. ⌜ (r .number ≡ 0 → drop (tupleSize 16 (termsOf (now (question .entry))) * r .count) (now (list .exit))
-        ≡ replicate (length (now (list .entry)) - tupleSize 16 (termsOf (now (question .entry))) * r .count) 0) ⌝ }
-    ensures refused { λ r. ⌜ ((r .number ≡ 0 → ⊥) → (r .count ≡ 0) × (now (list .exit) ≡ replicate (length (now (list .entry))) 0)) ⌝ }
+    ensures { λ r. ⌜ Drawn (now (rules .entry)) (now (question .entry)) (now (union .entry)) (now (facts .entry)) (length (now (list .entry)))
+        (r .number) (r .count) (now (list .exit)) ⌝ }
 {
     let partners = default_partners();
-    let mut table = [0u64; 512];
+    let mut table = [0u64; MOST_RULES];
     let inclusions = read_rules(rules, &partners, &mut table);
     if inclusions.number != 0 {
         return refuse(inclusions.number, list);
@@ -97,20 +77,8 @@ pub extern "C" fn takwishan_answer(
     facts: &[u8],
     list: &mut [u8],
 ) -> Answers
-    ensures outcome { λ r. ⌜ (r .number ≡ outcome (now (rules .entry)) (now (question .entry)) (now (union .entry)) (now (facts .entry)) (length (now (list .entry))) .number)
-        × (r .count ≡ outcome (now (rules .entry)) (now (question .entry)) (now (union .entry)) (now (facts .entry)) (length (now (list .entry))) .count)
-        × (now (list .exit) ≡ outcome (now (rules .entry)) (now (question .entry)) (now (union .entry)) (now (facts .entry)) (length (now (list .entry))) .list) ⌝ }
-    ensures zero { λ r. ⌜ (r .number ≡ 0) ↔ (SoundAndAccepted (now (rules .entry)) (now (question .entry)) (now (union .entry)) × SoundFacts (now (facts .entry))
-        × (bytesNeeded (now (question .entry)) (now (union .entry)) (now (facts .entry)) ≤ length (now (list .entry)))) ⌝ }
-    ensures short { λ r. ⌜ (r .number ≡ 14) ↔ (SoundAndAccepted (now (rules .entry)) (now (question .entry)) (now (union .entry)) × SoundFacts (now (facts .entry))
-        × (length (now (list .entry)) < bytesNeeded (now (question .entry)) (now (union .entry)) (now (facts .entry)))) ⌝ }
-    ensures readers { λ r. ⌜ (r .number ≡ 0 → (tuple : List ℕ) → Registered tuple
-        → Listed (now (list .exit)) (r .count) (termsOf (now (question .entry))) tuple ↔ SecondReader (theRules (now (rules .entry))) (theQuestion (now (question .entry))) (theFacts (now (facts .entry))) tuple) ⌝ }
-    ensures ascending { λ r. ⌜ (r .number ≡ 0 → (j k : ℕ) (t u : List ℕ) → Registered t → Registered u → j < k → k < r .count
-        → StandsAt (now (list .exit)) (termsOf (now (question .entry))) j t → StandsAt (now (list .exit)) (termsOf (now (question .entry))) k u → Before t u) ⌝ }
-    ensures rest { λ r. ⌜ (r .number ≡ 0 → drop (tupleSize 16 (termsOf (now (question .entry))) * r .count) (now (list .exit))
-        ≡ replicate (length (now (list .entry)) - tupleSize 16 (termsOf (now (question .entry))) * r .count) 0) ⌝ }
-    ensures refused { λ r. ⌜ ((r .number ≡ 0 → ⊥) → (r .count ≡ 0) × (now (list .exit) ≡ replicate (length (now (list .entry))) 0)) ⌝ }
+    ensures { λ r. ⌜ Drawn (now (rules .entry)) (now (question .entry)) (now (union .entry)) (now (facts .entry)) (length (now (list .entry)))
+        (r .number) (r .count) (now (list .exit)) ⌝ }
 {
     answer(rules, question, union, facts, list)
 }
@@ -133,20 +101,12 @@ pub struct Part {
 // The place of the part that `member` hands back: where it begins, 0 for an empty part, and its length.
 #[no_mangle]
 pub extern "C" fn takwishan_member(sheet: &[u8], m: usize) -> Part
-    ensures place { λ r. ⌜ (r .start ≡ partStart (now (sheet .entry)) m) × (r .length ≡ length (thePart (now (sheet .entry)) m)) ⌝ }
-    ensures within { λ r. ⌜ r .start + r .length ≤ length (now (sheet .entry)) ⌝ }
-    ensures part { λ r. ⌜ take (r .length) (drop (r .start) (now (sheet .entry))) ≡ thePart (now (sheet .entry)) m ⌝ }
+    ensures { λ r. ⌜ Shown (now (sheet .entry)) m (r .start) (r .length) ⌝ }
 {
-    let part = member(sheet, m);
-    let length = part.len();
-    if length == 0 {
-        return Part {
-            start: 0,
-            length: 0,
-        };
-    }
+    let partners = default_partners();
+    let place = member_place(sheet, m, &partners);
     Part {
-        start: question_start(sheet, m),
-        length,
+        start: place.start,
+        length: place.length,
     }
 }

@@ -19,8 +19,8 @@ use Rattle.theory.specs.Renaming.{alike}
 use Rattle.theory.specs.Union.{refuses11}
 use Rattle.theory.specs.Laws.Syntax.{keepOnce-unrepeated}
 use Rattle.theory.specs.Laws.Steps.{ruleStep-iff, mergeStep-iff}
-use Rattle.words.specs.Records.{ruleOf, atomOf}
-use Rattle.words.specs.Words.{queryOf, Small, rulesIn, unionIn}
+use Rattle.words.specs.Records.{ruleIn}
+use Rattle.words.specs.Words.{queryOf, Small, rulesIn, unionIn, wordAtom}
 use Rattle.words.specs.declared.QueryWords.{QueryWords}
 use Rattle.rule_on_atom.specs.RuleOnAtom.{names, unnamed-none}
 use Rattle.rewriting.proofs.StepLaws.{atom-at}
@@ -78,18 +78,18 @@ module _ (rules : List Rule) (union : UCQ) (q : Query) where
   abbrev pub atomOut : ℕ → ℕ → Bool
   atomOut count i = any (ruleOut i) (numbers 0 count)
 
-pub rule-distinct : (r : QueryFound) (q : QueryWords) (i x : ℕ) → ((rs : List Rule) (l : ℕ) → At rs l (ruleOf x) → queryFound r ≡ ruleStep rs (queryOf q) i l) → r .found ≡ true → Unrepeated (queryOf (r .query) .atoms)
-rule-distinct r q i x f g = rule-result (ruleOf x ∷ []) (queryOf q) i 0 (queryOf (r .query)) (is-found r (ruleStep (ruleOf x ∷ []) (queryOf q) i 0) (f (ruleOf x ∷ []) 0 refl) g)
+pub rule-distinct : (r : QueryFound) (q : QueryWords) (i x : ℕ) → ((rs : List Rule) (l : ℕ) → At rs l (ruleIn x) → queryFound r ≡ ruleStep rs (queryOf q) i l) → r .found ≡ true → Unrepeated (queryOf (r .query) .atoms)
+rule-distinct r q i x f g = rule-result (ruleIn x ∷ []) (queryOf q) i 0 (queryOf (r .query)) (is-found r (ruleStep (ruleIn x ∷ []) (queryOf q) i 0) (f (ruleIn x ∷ []) 0 refl) g)
 
-module _ (rules : List ℕ) (count : ℕ) (r : QueryFound) (q : QueryWords) (i k : ℕ) (within : count ≤ length rules) (h : k < count) (f : (rs : List Rule) (l : ℕ) → At rs l (ruleOf (getD rules k 0)) → queryFound r ≡ ruleStep rs (queryOf q) i l) where
+module _ (rules : List ℕ) (count : ℕ) (r : QueryFound) (q : QueryWords) (i k : ℕ) (within : count ≤ length rules) (h : k < count) (f : (rs : List Rule) (l : ℕ) → At rs l (ruleIn (getD rules k 0)) → queryFound r ≡ ruleStep rs (queryOf q) i l) where
   pub rule-leads : (b : Bool) (union : UCQ) → b ≡ leadsOutside union (queryFound r) → b ≡ ruleOut (rulesIn rules count) union (queryOf q) i k
   rule-leads b union e = e ∙ ap (leadsOutside union) (rule-steps rules count within r q i k h f)
 
 -- a rule for another predicate gives no step
-pub rule-passed : (rules : List ℕ) (count : ℕ) (q : QueryWords) (i k : ℕ) (union : UCQ) (b : Bool) → count ≤ length rules → k < count → length (q .atoms) ≡ 8 → Small q → i < q .size → b ≡ names (ruleOf (getD rules k 0)) (atomOf 24 (getD (q .atoms) i 0)) → b ≡ false → false ≡ ruleOut (rulesIn rules count) union (queryOf q) i k
+pub rule-passed : (rules : List ℕ) (count : ℕ) (q : QueryWords) (i k : ℕ) (union : UCQ) (b : Bool) → count ≤ length rules → k < count → length (q .atoms) ≡ 8 → Small q → i < q .size → b ≡ names (ruleIn (getD rules k 0)) (wordAtom (getD (q .atoms) i 0)) → b ≡ false → false ≡ ruleOut (rulesIn rules count) union (queryOf q) i k
 unfolding ruleStep any toList
 rule-passed rules count q i k union b within h l s g e f =
-    let none-made = unnamed-none (queryOf q) (ruleOf (getD rules k 0)) (atomOf 24 (getD (q .atoms) i 0)) (sym e ∙ f) in
+    let none-made = unnamed-none (queryOf q) (ruleIn (getD rules k 0)) (wordAtom (getD (q .atoms) i 0)) (sym e ∙ f) in
     let no-step : ruleStep (rulesIn rules count) (queryOf q) i k ≡ none = simp (rule-there rules count within k h, atom-at q i l s g, ← none-made) in
     sym (ap (leadsOutside union) no-step)
 
@@ -192,7 +192,7 @@ each-step union rules q =
 module _ (rules : List ℕ) (count : ℕ) (table : List ℕ) (n j : ℕ) (q : QueryWords) (within : count ≤ length rules) (s : Small q) (eight : length (q .atoms) ≡ 8) (e : queryOf q ≡ memberAt table j .query) (b : Bool) (f : b ≡ any (atomOut (rulesIn rules count) (unionIn table n) (queryOf q) count) (numbers 0 (q .size))) where
   size-is : length (queryOf q .atoms) ≡ q .size
   unfolding queryOf
-  size-is = length-map (take (q .size) (q .atoms)) (atomOf 24) ∙ length-take-le (q .size) (q .atoms) (let h = s .few-atoms in omega arith)
+  size-is = length-map (take (q .size) (q .atoms)) wordAtom ∙ length-take-le (q .size) (q .atoms) (let h = s .few-atoms in omega arith)
 
   either : any (outside (unionIn table n)) (steps (rulesIn rules count) (memberAt table j .query)) ≡ (b || any (mergesOut (unionIn table n) (queryOf q) (q .size)) (numbers 0 (q .size)))
   either =

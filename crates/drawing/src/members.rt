@@ -1,16 +1,15 @@
 // The members of a union: read into a table, and checked against rules and question.
-use read_union::UnionRead;
 use read_union::read_union;
+use records::SheetRead;
 use ucq::check_union;
 use words::QueryWords;
+use words::limits::MOST_MEMBERS;
+use words::limits::TABLE_WORDS;
 ghost use mathlib.Core.Path.{_≡_};
 ghost use Prim.Native.Nat.{_≤_};
 ghost use lib.ListN.{length};
-ghost use Rattle.theory.specs.Lists.{pick};
-ghost use Rattle.theory.specs.Union.{check as checkOf};
-ghost use Rattle.words.specs.Words.{rulesIn, queryOf, unionIn, Small};
-ghost use Rattle.sheets.specs.Refusals.{refuses6, unionAsRead, numberOf};
-ghost use Rattle.drawing.specs.Stages.{Members};
+ghost use Rattle.words.specs.Words.{rulesIn, queryOf, Small, tableWords};
+ghost use Rattle.drawing.specs.Stages.{unionNumber, MembersRead};
 
 // Refusals 6 to 11, for rules and a question that were read: the number of the first that applies, or 0 and the members in the table.
 pub fn read_members(
@@ -20,21 +19,19 @@ pub fn read_members(
     union: &[u8],
     partners: &[u16],
     table: &mut [u64],
-) -> UnionRead
-    requires { ⌜ (count ≤ length (now rules)) × Small question × (8192 ≤ length (now table)) ⌝ }
-    ensures number { λ r. ⌜ r .number ≡ pick (refuses6 (now (partners .entry)) 16 (question .terms) (now (union .entry))) 6
-        (numberOf (checkOf (rulesIn (now (rules .entry)) count) (queryOf question) (unionAsRead (now (partners .entry)) 16 (now (union .entry))))) ⌝ }
+) -> SheetRead
+    requires { ⌜ (count ≤ length (now rules)) × Small question × (tableWords ≤ length (now table)) ⌝ }
     ensures kept { λ _. ⌜ length (now (table .exit)) ≡ length (now (table .entry)) ⌝ }
-    ensures members { λ r. ⌜ (r .number ≡ 0 → (unionIn (now (table .exit)) (r .count) ≡ unionAsRead (now (partners .entry)) 16 (now (union .entry)))
-        × Members (now (table .exit)) (r .count) (question .terms)) ⌝ }
+    ensures members { λ r. ⌜ MembersRead (now (partners .entry)) (rulesIn (now (rules .entry)) count) (queryOf question) (question .terms)
+        (now (union .entry)) (now (table .exit)) (r .number) (r .count) ⌝ }
 {
     let members = read_union(union, partners, question.terms, table);
     if members.number != 0 {
         return members;
     }
-    let mut keys = [0u64; 512];
+    let mut keys = [0u64; MOST_MEMBERS];
     let number = check_union(rules, count, question, table, members.count, &mut keys);
-    UnionRead {
+    SheetRead {
         number,
         count: members.count,
     }
@@ -49,10 +46,10 @@ pub fn check_members(
     partners: &[u16],
 ) -> u32
     requires { ⌜ (count ≤ length (now rules)) × Small question ⌝ }
-    ensures { λ r. ⌜ r ≡ pick (refuses6 (now (partners .entry)) 16 (question .terms) (now (union .entry))) 6
-        (numberOf (checkOf (rulesIn (now (rules .entry)) count) (queryOf question) (unionAsRead (now (partners .entry)) 16 (now (union .entry))))) ⌝ }
+    ensures { λ r. ⌜ r ≡ unionNumber (now (partners .entry)) (rulesIn (now (rules .entry)) count) (queryOf question) (question .terms)
+        (now (union .entry)) ⌝ }
 {
-    let mut table = [0u64; 8192];
+    let mut table = [0u64; TABLE_WORDS];
     let members = read_members(rules, count, question, union, partners, &mut table);
     members.number
 }

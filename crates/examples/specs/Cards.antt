@@ -1,8 +1,10 @@
 -- 01's cards K1 to K8 from bytes: number, count and every byte of the list follow from the definition that the contract of drawing
--- names. A is concept 1 and P role 16, which has no partner; x, y, z, w are variables 0 to 3.
+-- names, and the printed lines, where 01 gives them, from the one that the program's contract names. A is concept 1 and P role 16, which
+-- has no partner; x, y, z, w are variables 0 to 3.
 use mathlib.Core.Path.{_≡_, refl}
 use Prim.Native.Nat.{ℕ, _-_}
 use mathlib.Core.Bool.{Bool, true, _&&_}
+use mathlib.Core.Option.{Option, none, some}
 use mathlib.Core.List.{List, [], _∷_, _++_}
 use lib.Dec.{eqb}
 use lib.ListN.{length, replicate}
@@ -11,11 +13,16 @@ use Rattle.theory.specs.Union.{refuses7, refuses8, refuses9, refuses10, refuses
 use Rattle.theory.specs.Evaluation.{answersOf}
 use Rattle.sheets.specs.AnswerList.{listBytes}
 use Rattle.sheets.specs.Partners.{partners01}
-use Rattle.sheets.specs.Refusals.{refuses1, refuses2, refuses3, refuses4, refuses5, refuses6, refuses12, refuses13, rulesAsRead, questionAsRead, unionAsRead, factsAsRead, refusalOf, numberOf}
-use Rattle.answering.specs.Demands.{checkNumber}
+use Rattle.sheets.specs.Refusals.{refusalOf, numberOf}
+use Rattle.sheets.specs.Tests.{refuses1, refuses2, refuses3, refuses4, refuses5, refuses6, refuses12, refuses13}
+use Rattle.sheets.specs.Reading.{rulesAsRead, questionAsRead, unionAsRead, factsAsRead}
+use Rattle.answering.specs.Checking.{checkNumber}
 use Rattle.answering.specs.Drawing.{Outcome, outcome}
+use Rattle.report.specs.Ascii.{ascii}
+use Rattle.report.specs.Text.{textFor}
 
--- four sheets and the length of the list; what checking gives, and what drawing gives: number, count, and the bytes before the zeros
+-- four sheets and the length of the list; what checking gives; what drawing gives: number, count, and the bytes before the zeros; and what
+-- the program prints, where 01 says it
 pub record Card : Type 0 where
   pub rules : List ℕ
   pub question : List ℕ
@@ -26,6 +33,7 @@ pub record Card : Type 0 where
   pub number : ℕ
   pub count : ℕ
   pub answers : List ℕ
+  pub printed : Option (List ℕ)
 
 -- ---- sheets that several cards have
 
@@ -81,10 +89,43 @@ alone question = 0x00 ∷ 0x01 ∷ [] ++ itself ++ question
 unfoldable pub cards : List Card
 cards =
     -- K1: "Output, whole: `accepted 2`, `7`, `9`", from a list of 16,384 bytes
-    record { rules = rules1; question = question1; union = union1; facts = facts1; room = 16384; checked = 0; number = 0; count = 2; answers = 0 ∷ 7 ∷ 0 ∷ 9 ∷ [] }
+    record {
+      rules = rules1;
+      question = question1;
+      union = union1;
+      facts = facts1;
+      room = 16384;
+      checked = 0;
+      number = 0;
+      count = 2;
+      answers = 0 ∷ 7 ∷ 0 ∷ 9 ∷ [];
+      printed = some (ascii "accepted 2\n7\n9\n");
+    }
     -- K2: "K1 with 3 bytes of list, 14; with 4, accepted"
-    ∷ record { rules = rules1; question = question1; union = union1; facts = facts1; room = 3; checked = 0; number = 14; count = 0; answers = [] }
-    ∷ record { rules = rules1; question = question1; union = union1; facts = facts1; room = 4; checked = 0; number = 0; count = 2; answers = 0 ∷ 7 ∷ 0 ∷ 9 ∷ [] }
+    ∷ record {
+      rules = rules1;
+      question = question1;
+      union = union1;
+      facts = facts1;
+      room = 3;
+      checked = 0;
+      number = 14;
+      count = 0;
+      answers = [];
+      printed = none;
+    }
+    ∷ record {
+      rules = rules1;
+      question = question1;
+      union = union1;
+      facts = facts1;
+      room = 4;
+      checked = 0;
+      number = 0;
+      count = 2;
+      answers = 0 ∷ 7 ∷ 0 ∷ 9 ∷ [];
+      printed = none;
+    }
     -- K3: "Members: itself, P(x,y), A(x). A(5) gives 5."
     ∷ record {
       rules = everyA;
@@ -99,18 +140,33 @@ cards =
       number = 0;
       count = 1;
       answers = 0 ∷ 5 ∷ [];
+      printed = none;
     }
     -- K4: "K3 with member 0 only, 11."
-    ∷ record { rules = everyA; question = question3; union = alone question3; facts = factA5; room = 7; checked = 11; number = 11; count = 0; answers = [] }
-    -- K5: "A has a P, whoever is P-reached is A [..]. Six members: itself; P(x,y), A(y); P(x,x); P(x,y), P(w,y); P(x,y); A(x). A(5) gives count 1."
+    ∷ record {
+      rules = everyA;
+      question = question3;
+      union = alone question3;
+      facts = factA5;
+      room = 7;
+      checked = 11;
+      number = 11;
+      count = 0;
+      answers = [];
+      printed = none;
+    }
+    -- K5: "A has a P, whoever is P-reached is A [..]. Six members: itself; P(x,y), A(y); P(x,x); P(x,y), P(w,y); P(x,y); A(x). A(5)
+    -- gives count 1."
     ∷ record {
       rules = everyA ++ (0x18 ∷ 0x04 ∷ 0x00 ∷ 0x01 ∷ []);
       question = question5;
       union =
           0x00 ∷ 0x06 ∷ [] ++ itself ++ question5
-          ++ (0x40 ∷ 0x01 ∷ 0x00 ∷ 0x00 ∷ []) ++ (0x02 ∷ 0x80 ∷ 0x40 ∷ 0x00 ∷ 0x00 ∷ 0x00 ∷ 0x01 ∷ 0x00 ∷ 0x04 ∷ 0x00 ∷ 0x02 ∷ 0x00 ∷ 0x00 ∷ [])
+          ++ (0x40 ∷ 0x01 ∷ 0x00 ∷ 0x00 ∷ [])
+          ++ (0x02 ∷ 0x80 ∷ 0x40 ∷ 0x00 ∷ 0x00 ∷ 0x00 ∷ 0x01 ∷ 0x00 ∷ 0x04 ∷ 0x00 ∷ 0x02 ∷ 0x00 ∷ 0x00 ∷ [])
           ++ (0x80 ∷ 0x00 ∷ 0x00 ∷ 0x01 ∷ []) ++ (0x01 ∷ 0x80 ∷ 0x40 ∷ 0x00 ∷ 0x00 ∷ 0x00 ∷ 0x00 ∷ [])
-          ++ (0x40 ∷ 0x11 ∷ 0x00 ∷ 0x01 ∷ []) ++ (0x02 ∷ 0x80 ∷ 0x40 ∷ 0x00 ∷ 0x00 ∷ 0x00 ∷ 0x01 ∷ 0x80 ∷ 0x40 ∷ 0x00 ∷ 0x06 ∷ 0x00 ∷ 0x01 ∷ [])
+          ++ (0x40 ∷ 0x11 ∷ 0x00 ∷ 0x01 ∷ [])
+          ++ (0x02 ∷ 0x80 ∷ 0x40 ∷ 0x00 ∷ 0x00 ∷ 0x00 ∷ 0x01 ∷ 0x80 ∷ 0x40 ∷ 0x00 ∷ 0x06 ∷ 0x00 ∷ 0x01 ∷ [])
           ++ (0x80 ∷ 0x30 ∷ 0x00 ∷ 0x01 ∷ []) ++ (0x01 ∷ 0x80 ∷ 0x40 ∷ 0x00 ∷ 0x00 ∷ 0x00 ∷ 0x01 ∷ [])
           ++ (0x40 ∷ 0x40 ∷ 0x00 ∷ 0x00 ∷ []) ++ (0x01 ∷ 0x00 ∷ 0x04 ∷ 0x00 ∷ 0x00 ∷ 0x00 ∷ 0x00 ∷ []);
       facts = factA5;
@@ -119,13 +175,47 @@ cards =
       number = 0;
       count = 1;
       answers = [];
+      printed = none;
     }
     -- K6: "One member; A(5) gives none."
-    ∷ record { rules = everyA; question = question6; union = alone question6; facts = factA5; room = 7; checked = 0; number = 0; count = 0; answers = [] }
+    ∷ record {
+      rules = everyA;
+      question = question6;
+      union = alone question6;
+      facts = factA5;
+      room = 7;
+      checked = 0;
+      number = 0;
+      count = 0;
+      answers = [];
+      printed = none;
+    }
     -- K7: "5"
-    ∷ record { rules = []; question = question7; union = alone question7; facts = []; room = 7; checked = 5; number = 5; count = 0; answers = [] }
+    ∷ record {
+      rules = [];
+      question = question7;
+      union = alone question7;
+      facts = [];
+      room = 7;
+      checked = 5;
+      number = 5;
+      count = 0;
+      answers = [];
+      printed = none;
+    }
     -- K8: "K1 without rules, member 0 alone: `accepted 1`, `9`."
-    ∷ record { rules = []; question = question1; union = alone question1; facts = facts1; room = 16384; checked = 0; number = 0; count = 1; answers = 0 ∷ 9 ∷ [] }
+    ∷ record {
+      rules = [];
+      question = question1;
+      union = alone question1;
+      facts = facts1;
+      room = 16384;
+      checked = 0;
+      number = 0;
+      count = 1;
+      answers = 0 ∷ 9 ∷ [];
+      printed = some (ascii "accepted 1\n9\n");
+    }
     ∷ []
 
 -- ---- the proof
@@ -133,12 +223,24 @@ cards =
 -- number, count and list are those of the card
 unfoldable pub comesTo : Card → Outcome → Bool
 unfolding pairwise
-comesTo c o = eqb (o .number) (c .number) && eqb (o .count) (c .count) && pairwise eqb (o .list) (c .answers ++ replicate (c .room - length (c .answers)) 0)
+comesTo c o =
+    eqb (o .number) (c .number) && eqb (o .count) (c .count)
+    && pairwise eqb (o .list) (c .answers ++ replicate (c .room - length (c .answers)) 0)
+
+-- the lines are those of the card
+unfoldable pub prints : Option (List ℕ) → List ℕ → Bool
+unfolding pairwise
+prints none text = true
+prints (some lines) text = pairwise eqb text lines
 
 unfoldable pub holds : Card → Bool
-unfolding comesTo outcome numberOf refusalOf partners01 rulesAsRead questionAsRead unionAsRead factsAsRead answersOf listBytes
+unfolding comesTo prints textFor outcome numberOf refusalOf partners01 rulesAsRead questionAsRead unionAsRead factsAsRead answersOf
+    listBytes
     refuses1 refuses2 refuses3 refuses4 refuses5 refuses6 refuses7 refuses8 refuses9 refuses10 refuses11 refuses12 refuses13
-holds c = eqb (checkNumber (c .rules) (c .question) (c .union)) (c .checked) && comesTo c (outcome (c .rules) (c .question) (c .union) (c .facts) (c .room))
+holds c =
+    eqb (checkNumber (c .rules) (c .question) (c .union)) (c .checked)
+    && comesTo c (outcome (c .rules) (c .question) (c .union) (c .facts) (c .room))
+    && prints (c .printed) (textFor (c .rules) (c .question) (c .union) (c .facts))
 
 pub cards-hold : all holds cards ≡ true
 unfolding all holds cards

@@ -9,11 +9,14 @@ use Rattle.theory.specs.Lists.{pick, all, pairwise}
 use Rattle.theory.specs.Refusals.{firstRefusal}
 use Rattle.theory.specs.Syntax.{Term, var, const, Atom, concept, role, Basic, named, has, hasInverse, Rule, conceptInclusion, roleInclusion, Query, Step, Member, UCQ, Fact, onAtoms}
 use Rattle.theory.specs.Union.{sameQuery}
+use Rattle.words.specs.Limits.{sheetWidth}
 use Rattle.sheets.specs.Bits.{numberAt}
 use Rattle.sheets.specs.Format.{rulesOf, factsOf, queryAt, memberCount, unionOf}
 use Rattle.sheets.specs.Packing.{formOf, nameOf}
 use Rattle.sheets.specs.Partners.{partners01}
-use Rattle.sheets.specs.Refusals.{refuses1, refuses2, refuses3, refuses4, refuses5, refuses6, refuses12, refuses13, rulesAsRead, questionAsRead, unionAsRead, factsAsRead, numberOf, ruleRefusals, questionRefusals, factRefusals}
+use Rattle.sheets.specs.Refusals.{numberOf, ruleRefusals, questionRefusals, factRefusals}
+use Rattle.sheets.specs.Reading.{rulesAsRead, questionAsRead, unionAsRead, factsAsRead}
+use Rattle.sheets.specs.Tests.{refuses1, refuses2, refuses3, refuses4, refuses5, refuses6, refuses12, refuses13}
 use Rattle.examples.specs.Notation.{x, y, ask, first, byRule}
 
 -- A sheet, what it says before and after reciprocal names are read, and the first of its own refusals, 0 if it meets none.
@@ -208,16 +211,16 @@ unfolding numberAt matches pairwise sameRule sameMember onAtoms partners01 numbe
     rulesOf rulesAsRead ruleRefusals refuses1 refuses2 queryAt questionAsRead questionRefusals refuses3 refuses4 refuses5
     unionOf unionAsRead refuses6 factsOf factsAsRead factRefusals refuses12 refuses13
 holds (ofRules r) =
-    matches (pairwise sameRule) r (rulesOf (r .sheet)) (rulesAsRead partners01 16 (r .sheet)) (numberOf (firstRefusal (ruleRefusals (r .sheet))))
+    matches (pairwise sameRule) r (rulesOf (r .sheet)) (rulesAsRead partners01 sheetWidth (r .sheet)) (numberOf (firstRefusal (ruleRefusals (r .sheet))))
 holds (ofQuestion r unread) =
-    let q : Query = queryAt 16 (r .sheet) 0 in
-    matches sameQuery r q (questionAsRead partners01 16 (r .sheet)) (numberOf (firstRefusal (questionRefusals partners01 16 (r .sheet))))
-    && eqb (numberOf (firstRefusal ((3, refuses3 16 (r .sheet)) ∷ (4, refuses4 q) ∷ (5, refuses5 q) ∷ []))) unread
+    let q : Query = queryAt sheetWidth (r .sheet) 0 in
+    matches sameQuery r q (questionAsRead partners01 sheetWidth (r .sheet)) (numberOf (firstRefusal (questionRefusals partners01 sheetWidth (r .sheet))))
+    && eqb (numberOf (firstRefusal ((3, refuses3 sheetWidth (r .sheet)) ∷ (4, refuses4 q) ∷ (5, refuses5 q) ∷ []))) unread
 holds (ofCount sheet n) = eqb (memberCount sheet) n
 holds (ofUnion r arity) =
-    matches (pairwise sameMember) r (unionOf 16 (r .sheet)) (unionAsRead partners01 16 (r .sheet)) (pick (refuses6 partners01 16 arity (r .sheet)) 6 0)
+    matches (pairwise sameMember) r (unionOf sheetWidth (r .sheet)) (unionAsRead partners01 sheetWidth (r .sheet)) (pick (refuses6 partners01 sheetWidth arity (r .sheet)) 6 0)
 holds (ofFacts r) =
-    matches (pairwise (onAtoms eqb)) r (factsOf 16 (r .sheet)) (factsAsRead partners01 16 (r .sheet)) (numberOf (firstRefusal (factRefusals 16 (r .sheet))))
+    matches (pairwise (onAtoms eqb)) r (factsOf sheetWidth (r .sheet)) (factsAsRead partners01 sheetWidth (r .sheet)) (numberOf (firstRefusal (factRefusals sheetWidth (r .sheet))))
 
 pub samples-hold : all holds samples ≡ true
 unfolding all holds samples

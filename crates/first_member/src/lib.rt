@@ -1,5 +1,6 @@
 // Refusal 7: member 0 is the question, with no step beside it.
 use rows::load;
+use rows::no_step;
 use words::QueryWords;
 use words::same_atom;
 use words::same_term;
@@ -10,14 +11,13 @@ ghost use lib.ListN.{take};
 ghost use Rattle.theory.specs.Lists.{pairwise};
 ghost use Rattle.theory.specs.Syntax.{Rule, sameTerm, sameAtom};
 ghost use Rattle.theory.specs.Union.{sameQuery, refuses7 as refusesSeven};
-ghost use Rattle.words.specs.Records.{termOf, atomOf};
-ghost use Rattle.words.specs.Words.{TermWords, queryOf, Small, unionIn};
+ghost use Rattle.words.specs.Words.{TermWords, queryOf, Small, unionIn, wordTerm, wordAtom};
 ghost use Rattle.rows.specs.Rows.{Rows};
 
 // Whether the first n words of two arrays are the same terms.
 fn equal_terms(a: [u64; 4], b: [u64; 4], n: usize) -> bool
     requires { ⌜ (n ≤ 4) × TermWords a × TermWords b ⌝ }
-    ensures { λ r. ⌜ r ≡ pairwise sameTerm (map (termOf 24) (take n a)) (map (termOf 24) (take n b)) ⌝ }
+    ensures { λ r. ⌜ r ≡ pairwise sameTerm (map wordTerm (take n a)) (map wordTerm (take n b)) ⌝ }
 {
     let mut i: usize = 0;
     while i < n {
@@ -33,7 +33,7 @@ fn equal_terms(a: [u64; 4], b: [u64; 4], n: usize) -> bool
 // Whether the first n words of two arrays are the same atoms.
 fn equal_atoms(a: [u64; 8], b: [u64; 8], n: usize) -> bool
     requires { ⌜ n ≤ 8 ⌝ }
-    ensures { λ r. ⌜ r ≡ pairwise sameAtom (map (atomOf 24) (take n a)) (map (atomOf 24) (take n b)) ⌝ }
+    ensures { λ r. ⌜ r ≡ pairwise sameAtom (map wordAtom (take n a)) (map wordAtom (take n b)) ⌝ }
 {
     let mut i: usize = 0;
     while i < n {
@@ -76,7 +76,7 @@ pub fn refuses7(question: QueryWords, table: &[u64], n: usize) -> bool
     if n == 0 {
         return true;
     }
-    if table[0] % 0x100000000 == 0 {
+    if no_step(table[0]) {
         if same_query(load(table, 0), question) {
             return false;
         }

@@ -9,9 +9,8 @@ use lib.ListN.{length, getD, take, replicate, getD-replicate}
 use borrow.Author.Needs.{needs}
 use Rattle.theory.specs.Syntax.{Term}
 use Rattle.theory.specs.Laws.Counting.{total}
-use Rattle.words.specs.Records.{termOf, atomOf}
-use Rattle.words.specs.Words.{queryOf}
-use Rattle.words.specs.LowVariables.{answer-low, atom-low, word-below}
+use Rattle.words.specs.Words.{queryOf, wordTerm, wordAtom}
+use Rattle.words.specs.Laws.LowVariables.{answer-low, atom-low, word-below}
 use Rattle.words.specs.declared.QueryWords.{QueryWords}
 use Rattle.key.specs.Key.{top, mix, along, mixAnswer, mixAtom, given, givenBy, shapeBy, next, shapes}
 use Rattle.key.specs.Shapes.{listed, Listed, Plus, Upto}
@@ -46,10 +45,10 @@ module _ {X : Type 0} (g : ℕ → X) where
 
 module _ (s : Term → ℕ) where
   unfoldable pub answersSum : List ℕ → ℕ → ℕ
-  answersSum answers i = along (mixAnswer s) 0 (map (termOf 24) (take i answers))
+  answersSum answers i = along (mixAnswer s) 0 (map wordTerm (take i answers))
 
   unfoldable pub atomsSum : List ℕ → ℕ → ℕ
-  atomsSum atoms i = total (mixAtom s) (map (atomOf 24) (take i atoms))
+  atomsSum atoms i = total (mixAtom s) (map wordAtom (take i atoms))
 
   pub no-answers : (answers : List ℕ) → 0 ≡ answersSum answers 0
   unfolding answersSum along
@@ -60,29 +59,29 @@ module _ (s : Term → ℕ) where
   no-atoms atoms = refl
 
   module _ (q : QueryWords) (i sum : ℕ) where
-    pub answer-added : (r x : ℕ) → length (q .answers) ≡ 4 → q .terms ≤ 4 → i < q .terms → sum ≡ answersSum (q .answers) i → x ≡ s (termOf 24 (getD (q .answers) i 0)) → r ≡ mix (4 * i + 1) x 0 → sum + r ≡ answersSum (q .answers) (i + 1)
+    pub answer-added : (r x : ℕ) → length (q .answers) ≡ 4 → q .terms ≤ 4 → i < q .terms → sum ≡ answersSum (q .answers) i → x ≡ s (wordTerm (getD (q .answers) i 0)) → r ≡ mix (4 * i + 1) x 0 → sum + r ≡ answersSum (q .answers) (i + 1)
     unfolding answersSum mixAnswer
-    answer-added r x l f h e xe re = along-next (termOf 24) (mixAnswer s) (q .answers) i sum r (omega arith) e (re ∙ ap (λ y. mix (4 * i + 1) y 0) xe)
+    answer-added r x l f h e xe re = along-next wordTerm (mixAnswer s) (q .answers) i sum r (omega arith) e (re ∙ ap (λ y. mix (4 * i + 1) y 0) xe)
 
-    pub atom-added : (r : ℕ) → length (q .atoms) ≡ 8 → q .size ≤ 8 → i < q .size → sum ≡ atomsSum (q .atoms) i → r ≡ mixAtom s (atomOf 24 (getD (q .atoms) i 0)) → sum + r ≡ atomsSum (q .atoms) (i + 1)
+    pub atom-added : (r : ℕ) → length (q .atoms) ≡ 8 → q .size ≤ 8 → i < q .size → sum ≡ atomsSum (q .atoms) i → r ≡ mixAtom s (wordAtom (getD (q .atoms) i 0)) → sum + r ≡ atomsSum (q .atoms) (i + 1)
     unfolding atomsSum
-    atom-added r l f h e re = total-next (atomOf 24) (mixAtom s) (q .atoms) i sum r (omega arith) e re
+    atom-added r l f h e re = total-next wordAtom (mixAtom s) (q .atoms) i sum r (omega arith) e re
 
     pub answers-added : i ≤ q .terms → q .terms ≤ i → sum ≡ answersSum (q .answers) i → sum ≡ along (mixAnswer s) 0 (queryOf q .answers)
     unfolding answersSum queryOf
-    answers-added h g e = e ∙ ap (λ k. along (mixAnswer s) 0 (map (termOf 24) (take k (q .answers)))) (le-antisymm h g)
+    answers-added h g e = e ∙ ap (λ k. along (mixAnswer s) 0 (map wordTerm (take k (q .answers)))) (le-antisymm h g)
 
     pub atoms-added : i ≤ q .size → q .size ≤ i → sum ≡ atomsSum (q .atoms) i → sum ≡ total (mixAtom s) (queryOf q .atoms)
     unfolding atomsSum queryOf
-    atoms-added h g e = e ∙ ap (λ k. total (mixAtom s) (map (atomOf 24) (take k (q .atoms)))) (le-antisymm h g)
+    atoms-added h g e = e ∙ ap (λ k. total (mixAtom s) (map wordAtom (take k (q .atoms)))) (le-antisymm h g)
 
 -- ---- what is given so far
 
 unfoldable pub answersGive : List ℕ → ℕ → ℕ → ℕ
-answersGive answers i v = along (λ j t. given t (mixAnswer (λ u. 0) j t) v) 0 (map (termOf 24) (take i answers))
+answersGive answers i v = along (λ j t. given t (mixAnswer (λ u. 0) j t) v) 0 (map wordTerm (take i answers))
 
 unfoldable pub atomsGive : (Term → ℕ) → List ℕ → ℕ → ℕ → ℕ
-atomsGive s atoms i v = total (λ a. givenBy s a v) (map (atomOf 24) (take i atoms))
+atomsGive s atoms i v = total (λ a. givenBy s a v) (map wordAtom (take i atoms))
 
 -- at first nothing
 pub none-given : Upto 0 (replicate 32 0)
@@ -103,28 +102,28 @@ answer-room i n l h f b = record { long = b .long; upto = λ v k. omega (arith, 
 pub atom-room : (i n : ℕ) (l : List ℕ) → i < n → n ≤ 8 → Upto (2 * i) l → Upto 16 l
 atom-room i n l h f b = record { long = b .long; upto = λ v k. omega (arith, b .upto v k) }
 
-pub answer-upto : (i t w : ℕ) (l m : List ℕ) → Upto i l → w < top → Plus (given (termOf 24 t) w) l m → Upto (i + 1) m
-answer-upto i t w l m b h g = record { long = g .as-long ∙ b .long; upto = λ v k. omega (arith, b .upto v k, g .plus v k, given-le (termOf 24 t) w v) }
+pub answer-upto : (i t w : ℕ) (l m : List ℕ) → Upto i l → w < top → Plus (given (wordTerm t) w) l m → Upto (i + 1) m
+answer-upto i t w l m b h g = record { long = g .as-long ∙ b .long; upto = λ v k. omega (arith, b .upto v k, g .plus v k, given-le (wordTerm t) w v) }
 
-pub atom-upto : (s : Term → ℕ) (i a : ℕ) (l m : List ℕ) → Upto (2 * i) l → Plus (givenBy s (atomOf 24 a)) l m → Upto (2 * (i + 1)) m
-atom-upto s i a l m b g = record { long = g .as-long ∙ b .long; upto = λ v k. omega (arith, b .upto v k, g .plus v k, givenBy-le s (atomOf 24 a) v) }
+pub atom-upto : (s : Term → ℕ) (i a : ℕ) (l m : List ℕ) → Upto (2 * i) l → Plus (givenBy s (wordAtom a)) l m → Upto (2 * (i + 1)) m
+atom-upto s i a l m b g = record { long = g .as-long ∙ b .long; upto = λ v k. omega (arith, b .upto v k, g .plus v k, givenBy-le s (wordAtom a) v) }
 
 -- one word gives
-pub answer-gave : (q : QueryWords) (i w : ℕ) (l m : List ℕ) → length (q .answers) ≡ 4 → q .terms ≤ 4 → i < q .terms → Listed (answersGive (q .answers) i) l → w ≡ mix (4 * i + 1) 0 0 → Plus (given (termOf 24 (getD (q .answers) i 0)) w) l m → Listed (answersGive (q .answers) (i + 1)) m
+pub answer-gave : (q : QueryWords) (i w : ℕ) (l m : List ℕ) → length (q .answers) ≡ 4 → q .terms ≤ 4 → i < q .terms → Listed (answersGive (q .answers) i) l → w ≡ mix (4 * i + 1) 0 0 → Plus (given (wordTerm (getD (q .answers) i 0)) w) l m → Listed (answersGive (q .answers) (i + 1)) m
 unfolding answersGive mixAnswer
 answer-gave q i w l m len f h e we g = record {
   says = λ v k.
       g .plus v k
-      ∙ along-next (termOf 24) (λ j t. given t (mixAnswer (λ u. 0) j t) v) (q .answers) i (listed l v) (given (termOf 24 (getD (q .answers) i 0)) w v) (omega arith) (e .says v k)
-      (ap (λ y. given (termOf 24 (getD (q .answers) i 0)) y v) we);
+      ∙ along-next wordTerm (λ j t. given t (mixAnswer (λ u. 0) j t) v) (q .answers) i (listed l v) (given (wordTerm (getD (q .answers) i 0)) w v) (omega arith) (e .says v k)
+      (ap (λ y. given (wordTerm (getD (q .answers) i 0)) y v) we);
 }
 
-pub atom-gave : (s : Term → ℕ) (q : QueryWords) (i : ℕ) (l m : List ℕ) → length (q .atoms) ≡ 8 → q .size ≤ 8 → i < q .size → Listed (atomsGive s (q .atoms) i) l → Plus (givenBy s (atomOf 24 (getD (q .atoms) i 0))) l m → Listed (atomsGive s (q .atoms) (i + 1)) m
+pub atom-gave : (s : Term → ℕ) (q : QueryWords) (i : ℕ) (l m : List ℕ) → length (q .atoms) ≡ 8 → q .size ≤ 8 → i < q .size → Listed (atomsGive s (q .atoms) i) l → Plus (givenBy s (wordAtom (getD (q .atoms) i 0))) l m → Listed (atomsGive s (q .atoms) (i + 1)) m
 unfolding atomsGive
 atom-gave s q i l m len f h e g = record {
   says = λ v k.
       g .plus v k
-      ∙ total-next (atomOf 24) (λ a. givenBy s a v) (q .atoms) i (listed l v) (givenBy s (atomOf 24 (getD (q .atoms) i 0)) v) (omega arith) (e .says v k) refl;
+      ∙ total-next wordAtom (λ a. givenBy s a v) (q .atoms) i (listed l v) (givenBy s (wordAtom (getD (q .atoms) i 0)) v) (omega arith) (e .says v k) refl;
 }
 
 -- all have given

@@ -13,8 +13,9 @@ use borrow.Author.Needs.{needs}
 use borrow.Author.Tests.{eq-eqb, ne-eqb}
 use Rattle.theory.specs.Lists.{pick}
 use Rattle.theory.specs.Syntax.{Term, var, Atom, concept, role, sameTerm}
-use Rattle.words.specs.Records.{field, termOf, atomOf}
-use Rattle.words.specs.LowVariables.{LowTerm, concept-atom, role-atom, first-low, second-low, variable-word, object-high, object-term}
+use Rattle.words.specs.Laws.LowVariables.{concept-atom, role-atom, first-low, second-low, variable-word, object-high, object-term}
+use Rattle.words.specs.Limits.{wordObjectBound, wordTermBound}
+use Rattle.words.specs.Words.{wordTerm, wordAtom, wordKind, wordName, wordFirst, wordSecond, LowTerm}
 use Rattle.key.specs.Key.{scramble, top, mix, mixAtom, given, givenBy, shapeBy}
 use Rattle.key.specs.Shapes.{listed, Plus, Upto}
 
@@ -42,14 +43,14 @@ mix-made code x y r e = e
 
 -- ---- the term of a word
 
-low-word : (t : ℕ) → t < 32 → termOf 24 t ≡ var t
+low-word : (t : ℕ) → t < 32 → wordTerm t ≡ var t
 low-word t h = variable-word t (omega arith)
 
-pub variable-shape : (l : List ℕ) (t : ℕ) → t < 32 → getD l t 0 ≡ shapeBy (listed l) (termOf 24 t)
+pub variable-shape : (l : List ℕ) (t : ℕ) → t < 32 → getD l t 0 ≡ shapeBy (listed l) (wordTerm t)
 variable-shape l t h = sym (ap (shapeBy (listed l)) (low-word t h))
 
-pub object-shape : (h : ℕ → ℕ) (t : ℕ) → t < 33554432 → LowTerm t → 32 ≤ t → t ≡ shapeBy h (termOf 24 t)
-object-shape h t below low l = let e : t ≡ 16777216 + t % 16777216 = omega (arith, object-high t low l) in e ∙ sym (ap (shapeBy h) (object-term t low l))
+pub object-shape : (h : ℕ → ℕ) (t : ℕ) → t < wordTermBound → LowTerm t → 32 ≤ t → t ≡ shapeBy h (wordTerm t)
+object-shape h t below low l = let e : t ≡ wordObjectBound + t % wordObjectBound = omega (arith, object-high t low l) in e ∙ sym (ap (shapeBy h) (object-term t low l))
 
 -- ---- the number of an atom
 
@@ -59,12 +60,12 @@ one-term b c e d = simp (sym e ∙ d)
 pub two-terms : (b c : Bool) → b ≡ c → b ≡ false → _≡_ {A = ℕ} 3 (pick c 4 3)
 two-terms b c e d = simp (sym e ∙ d)
 
-module _ (s : Term → ℕ) (a k n t x r : ℕ) (ka : k ≡ field 63 1 a) (na : n ≡ field 50 12 a) (ta : t ≡ field 25 25 a) (xt : x ≡ s (termOf 24 t)) where
-  pub concept-mixed : k ≡ 0 → r ≡ mix (4 * n + 2) x 0 → r ≡ mixAtom s (atomOf 24 a)
+module _ (s : Term → ℕ) (a k n t x r : ℕ) (ka : k ≡ wordKind a) (na : n ≡ wordName a) (ta : t ≡ wordFirst a) (xt : x ≡ s (wordTerm t)) where
+  pub concept-mixed : k ≡ 0 → r ≡ mix (4 * n + 2) x 0 → r ≡ mixAtom s (wordAtom a)
   unfolding mixAtom
   concept-mixed z e = e ∙ sym (simp (concept-atom a (sym ka ∙ z), sym na, sym ta, sym xt))
 
-  pub role-mixed : (u y c : ℕ) → (k ≡ 0 → ⊥) → u ≡ field 0 25 a → y ≡ s (termOf 24 u) → c ≡ pick (sameTerm (termOf 24 t) (termOf 24 u)) 4 3 → r ≡ mix (4 * n + c) x y → r ≡ mixAtom s (atomOf 24 a)
+  pub role-mixed : (u y c : ℕ) → (k ≡ 0 → ⊥) → u ≡ wordSecond a → y ≡ s (wordTerm u) → c ≡ pick (sameTerm (wordTerm t) (wordTerm u)) 4 3 → r ≡ mix (4 * n + c) x y → r ≡ mixAtom s (wordAtom a)
   unfolding mixAtom
   role-mixed u y c z ua yu cp e = e ∙ sym (simp (role-atom a (λ w. z (ka ∙ w)), sym na, sym ta, sym ua, sym xt, sym yu, sym cp))
 
@@ -73,11 +74,11 @@ module _ (s : Term → ℕ) (a k n t x r : ℕ) (ka : k ≡ field 63 1 a) (na : 
 pub given-fits : (l : List ℕ) (t w : ℕ) → t < 32 → w < top → Upto 32 l → getD l t 0 + w < 18446744073709551616
 given-fits l t w h k b = omega (arith, b .upto t h)
 
-given-low : (t w v : ℕ) → t < 32 → given (termOf 24 t) w v ≡ pick (eqb t v) w 0
+given-low : (t w v : ℕ) → t < 32 → given (wordTerm t) w v ≡ pick (eqb t v) w 0
 unfolding given sameTerm
 given-low t w v h = simp (low-word t h)
 
-pub given-variable : (l : List ℕ) (t w : ℕ) → Upto 32 l → t < 32 → Plus (given (termOf 24 t) w) l (set l t (getD l t 0 + w))
+pub given-variable : (l : List ℕ) (t w : ℕ) → Upto 32 l → t < 32 → Plus (given (wordTerm t) w) l (set l t (getD l t 0 + w))
 given-variable l t w b h = record {
   as-long = length-set l t (getD l t 0 + w);
   plus = λ v k. elim (ℕ-discrete v t) [
@@ -90,7 +91,7 @@ given-variable l t w b h = record {
   ];
 }
 
-pub given-object : (l : List ℕ) (t w : ℕ) → t < 33554432 → LowTerm t → 32 ≤ t → Plus (given (termOf 24 t) w) l l
+pub given-object : (l : List ℕ) (t w : ℕ) → t < wordTermBound → LowTerm t → 32 ≤ t → Plus (given (wordTerm t) w) l l
 unfolding given sameTerm
 given-object l t w below low h = record { as-long = refl; plus = λ v k. sym (simp (object-term t low h, add-zero)) }
 
@@ -103,8 +104,8 @@ given-le t w v = elim (sameTerm t (var v)) as (λ b. pick b w 0 ≤ w) [ true �
 pub first-room : (l : List ℕ) → Upto 16 l → Upto 32 l
 first-room l b = record { long = b .long; upto = λ v k. omega (arith, b .upto v k) }
 
-pub second-room : (l m : List ℕ) (t w : ℕ) → Upto 16 l → w < top → Plus (given (termOf 24 t) w) l m → Upto 32 m
-second-room l m t w b h g = record { long = g .as-long ∙ b .long; upto = λ v k. omega (arith, b .upto v k, g .plus v k, given-le (termOf 24 t) w v) }
+pub second-room : (l m : List ℕ) (t w : ℕ) → Upto 16 l → w < top → Plus (given (wordTerm t) w) l m → Upto 32 m
+second-room l m t w b h g = record { long = g .as-long ∙ b .long; upto = λ v k. omega (arith, b .upto v k, g .plus v k, given-le (wordTerm t) w v) }
 
 -- no more than two numbers
 mix-below : (code x y : ℕ) → mix code x y < top
@@ -122,23 +123,23 @@ givenBy-le s (role P t u) v =
     let h : w < top = mix-below (4 * P + pick (sameTerm t u) 4 3) (s t) (s u) in
     omega (arith, given-le t w v, given-le u (scramble w) v, scramble-below w)
 
-concept-gives : (s : Term → ℕ) (a v : ℕ) → field 63 1 a ≡ 0 → givenBy s (atomOf 24 a) v ≡ given (termOf 24 (field 25 25 a)) (mixAtom s (atomOf 24 a)) v
+concept-gives : (s : Term → ℕ) (a v : ℕ) → wordKind a ≡ 0 → givenBy s (wordAtom a) v ≡ given (wordTerm (wordFirst a)) (mixAtom s (wordAtom a)) v
 unfolding givenBy
 concept-gives s a v e = rw (concept-atom a e)
 
-role-gives : (s : Term → ℕ) (a v : ℕ) → (field 63 1 a ≡ 0 → ⊥) → givenBy s (atomOf 24 a) v ≡ given (termOf 24 (field 25 25 a)) (mixAtom s (atomOf 24 a)) v + given (termOf 24 (field 0 25 a)) (scramble (mixAtom s (atomOf 24 a))) v
+role-gives : (s : Term → ℕ) (a v : ℕ) → (wordKind a ≡ 0 → ⊥) → givenBy s (wordAtom a) v ≡ given (wordTerm (wordFirst a)) (mixAtom s (wordAtom a)) v + given (wordTerm (wordSecond a)) (scramble (mixAtom s (wordAtom a))) v
 unfolding givenBy
 role-gives s a v e = rw (role-atom a e)
 
-module _ (s : Term → ℕ) (l m : List ℕ) (a k t w : ℕ) (ka : k ≡ field 63 1 a) (ta : t ≡ field 25 25 a) (wa : w ≡ mixAtom s (atomOf 24 a)) (g : Plus (given (termOf 24 t) w) l m) where
-  pub concept-given : k ≡ 0 → Plus (givenBy s (atomOf 24 a)) l m
+module _ (s : Term → ℕ) (l m : List ℕ) (a k t w : ℕ) (ka : k ≡ wordKind a) (ta : t ≡ wordFirst a) (wa : w ≡ mixAtom s (wordAtom a)) (g : Plus (given (wordTerm t) w) l m) where
+  pub concept-given : k ≡ 0 → Plus (givenBy s (wordAtom a)) l m
   concept-given z = record { as-long = g .as-long; plus = λ v h. g .plus v h ∙ ap (λ x. listed l v + x) (sym (concept-gives s a v (sym ka ∙ z) ∙ simp (sym ta, sym wa))) }
 
-  pub role-given : (u x : ℕ) (n : List ℕ) → (k ≡ 0 → ⊥) → u ≡ field 0 25 a → x ≡ scramble w → Plus (given (termOf 24 u) x) m n → Plus (givenBy s (atomOf 24 a)) l n
+  pub role-given : (u x : ℕ) (n : List ℕ) → (k ≡ 0 → ⊥) → u ≡ wordSecond a → x ≡ scramble w → Plus (given (wordTerm u) x) m n → Plus (givenBy s (wordAtom a)) l n
   role-given u x n z ua xw h = record {
     as-long = h .as-long ∙ g .as-long;
     plus = λ v j.
-        (let e : givenBy s (atomOf 24 a) v ≡ given (termOf 24 t) w v + given (termOf 24 u) x v = role-gives s a v (λ y. z (ka ∙ y)) ∙ simp (sym ta, sym ua, sym wa, sym xw) in
+        (let e : givenBy s (wordAtom a) v ≡ given (wordTerm t) w v + given (wordTerm u) x v = role-gives s a v (λ y. z (ka ∙ y)) ∙ simp (sym ta, sym ua, sym wa, sym xw) in
         omega (arith, e, g .plus v j, h .plus v j));
   }
 

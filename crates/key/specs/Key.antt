@@ -5,6 +5,7 @@ use mathlib.Core.List.{List, [], _∷_}
 use Rattle.theory.specs.Lists.{pick}
 use Rattle.theory.specs.Syntax.{Term, var, Atom, concept, role, Query, send, sameTerm}
 use Rattle.theory.specs.Laws.Counting.{total}
+use Rattle.words.specs.Limits.{wordObjectBound}
 
 -- ---- numbers
 
@@ -49,7 +50,7 @@ givenBy s (role P t u) v = given t (mixAtom s (role P t u)) v + given u (scrambl
 
 -- a term's shape: an object has its number, marked as an object's, and a variable what h says
 abbrev pub shapeBy : (ℕ → ℕ) → Term → ℕ
-shapeBy h = send (λ c. 16777216 + c) h
+shapeBy h = send (λ c. wordObjectBound + c) h
 
 -- the next shapes of variables: what all atoms give
 unfoldable pub next : Query → (ℕ → ℕ) → ℕ → ℕ

@@ -10,9 +10,8 @@ ghost use Prim.Native.Nat.{_+_, _*_, _≤_, _<_};
 ghost use Rattle.theory.specs.Lists.{pick};
 ghost use Rattle.theory.specs.Syntax.{sameTerm};
 ghost use Rattle.theory.specs.Laws.Counting.{total};
-ghost use Rattle.words.specs.Records.{termOf, atomOf};
-ghost use Rattle.words.specs.Words.{queryOf, Small};
-ghost use Rattle.words.specs.LowVariables.{LowTerm, LowAtom};
+ghost use Rattle.words.specs.Words.{queryOf, Small, wordTerm, wordAtom, LowTerm, LowAtom};
+ghost use Rattle.words.specs.Limits.{wordTermBound};
 ghost use Rattle.key.specs.Key.{scramble, top, mix, along, mixAnswer, mixAtom, given, givenBy, shapeBy, next, shapes as shapesAfter, key};
 ghost use Rattle.key.specs.Shapes.{listed, Listed, Plus, Upto};
 
@@ -33,16 +32,16 @@ fn mixed(code: u64, x: u64, y: u64) -> u64
 
 // The shape of a term: the word of an object, and what is listed of a variable.
 fn shape_of(shapes: &[u64; 32], t: u64) -> u64
-    requires { ⌜ (t < 33554432) × LowTerm t ⌝ }
-    ensures { λ r. ⌜ r ≡ shapeBy (listed (now (shapes .entry))) (termOf 24 t) ⌝ }
+    requires { ⌜ (t < wordTermBound) × LowTerm t ⌝ }
+    ensures { λ r. ⌜ r ≡ shapeBy (listed (now (shapes .entry))) (wordTerm t) ⌝ }
 {
     if t < 32 { shapes[t as usize] } else { t }
 }
 
 // 4 where both places of a role atom hold one term, else 3.
 fn role_code(t: u64, u: u64) -> u64
-    requires { ⌜ (t < 33554432) × (u < 33554432) ⌝ }
-    ensures { λ r. ⌜ (r ≡ pick (sameTerm (termOf 24 t) (termOf 24 u)) 4 3) × (r ≤ 4) ⌝ }
+    requires { ⌜ (t < wordTermBound) × (u < wordTermBound) ⌝ }
+    ensures { λ r. ⌜ (r ≡ pick (sameTerm (wordTerm t) (wordTerm u)) 4 3) × (r ≤ 4) ⌝ }
 {
     if same_term(t, u) { 4 } else { 3 }
 }
@@ -50,7 +49,7 @@ fn role_code(t: u64, u: u64) -> u64
 // The number of an atom.
 fn mixed_atom(shapes: &[u64; 32], a: u64) -> u64
     requires { ⌜ LowAtom a ⌝ }
-    ensures { λ r. ⌜ (r ≡ mixAtom (shapeBy (listed (now (shapes .entry)))) (atomOf 24 a)) × (r < top) ⌝ }
+    ensures { λ r. ⌜ (r ≡ mixAtom (shapeBy (listed (now (shapes .entry)))) (wordAtom a)) × (r < top) ⌝ }
 {
     let t = first_term(a);
     let x = shape_of(shapes, t);
@@ -65,8 +64,8 @@ fn mixed_atom(shapes: &[u64; 32], a: u64) -> u64
 
 // Puts w more into the list for the term, if it is a variable.
 fn give(all: &mut [u64; 32], t: u64, w: u64)
-    requires { ⌜ (t < 33554432) × LowTerm t × (w < top) × Upto 32 (now all) ⌝ }
-    ensures { λ r. ⌜ Plus (given (termOf 24 t) w) (now (all .entry)) (now (all .exit)) ⌝ }
+    requires { ⌜ (t < wordTermBound) × LowTerm t × (w < top) × Upto 32 (now all) ⌝ }
+    ensures { λ r. ⌜ Plus (given (wordTerm t) w) (now (all .entry)) (now (all .exit)) ⌝ }
 {
     if t < 32 {
         all[t as usize] += w;
@@ -76,7 +75,7 @@ fn give(all: &mut [u64; 32], t: u64, w: u64)
 // Puts into the list what the atom gives to each variable, by the shapes before.
 fn give_atom(all: &mut [u64; 32], shapes: &[u64; 32], a: u64)
     requires { ⌜ LowAtom a × Upto 16 (now all) ⌝ }
-    ensures { λ r. ⌜ Plus (givenBy (shapeBy (listed (now (shapes .entry)))) (atomOf 24 a)) (now (all .entry)) (now (all .exit)) ⌝ }
+    ensures { λ r. ⌜ Plus (givenBy (shapeBy (listed (now (shapes .entry)))) (wordAtom a)) (now (all .entry)) (now (all .exit)) ⌝ }
 {
     let w = mixed_atom(shapes, a);
     give(all, first_term(a), w);

@@ -1,175 +1,201 @@
--- Facts: sound records, the word of a fact, and the two loops through a sheet.
-use mathlib.Core.Path.{_≡_, sym, ap, _∙_}
-use Prim.Native.Nat.{ℕ, suc, _+_, _-_, _*_, _/_, _%_, _^_, _≤_, _<_}
-use native.Mathlib.Nat.{sub-zero, sub-eq-zero-of-le, mod-eq-of-lt}
-use native.Mathlib.Numerals.{add-one}
+-- Facts: sound records, the word of a fact, and a fact sheet's loops and refusals by the laws for records in a row.
+use mathlib.Core.Path.{_≡_, refl, sym, ap, _∙_, subst}
+use Prim.Native.Nat.{ℕ, _+_, _/_, _%_, _≤_, _<_}
 use native.Mathlib.Omega.{arith}
-use mathlib.Core.Bool.{Bool, true, false, not}
-use mathlib.Core.List.{List, [], _∷_, _++_, map, append-nil, map-append}
-use lib.Dec.{eqb}
-use lib.ListN.{length, take, set}
-use lib.Seq.{take-suc-set, append-snoc}
+use mathlib.Core.Bool.{Bool, true, false}
+use mathlib.Core.List.{List, _++_, map, map-map}
+use lib.Dec.{eqb, leb}
+use lib.ListN.{length, getD, take, set, length-map}
+use lib.Seq.{getD-set-same, getD-set-other}
+use borrow.Author.Count.{below-more}
 use borrow.Author.Needs.{needs}
-use borrow.Author.Tests.{eq-eqb, ne-eqb, lt-ltb, le-ltb, not-true, not-false}
-use Rattle.theory.specs.Lists.{pick, all, numbers}
+use borrow.Author.Tests.{ne-eqb, leb-true}
+use Rattle.theory.specs.Lists.{pick, all}
 use Rattle.theory.specs.Refusals.{firstRefusal}
 use Rattle.theory.specs.Syntax.{concept, role, Fact}
-use Rattle.sheets.specs.Bits.{numberAt}
+use Rattle.words.specs.FactWords.{FactWord, FactWords}
+use Rattle.words.specs.Limits.{sheetWidth, objectBound, mostFacts, mostFactBytes, recordBytes}
+use Rattle.words.specs.Records.{factKind, factZeros, factName, factFirst, factSecond, factOf}
+use Rattle.words.specs.Words.{factsIn, wordFact}
 use Rattle.sheets.specs.Format.{factRecords, factsOf}
-use Rattle.words.specs.Records.{factOf}
 use Rattle.sheets.specs.Partners.{isHigher, lower, atomAsRead}
-use Rattle.sheets.specs.Refusals.{factSound, factsAsRead, refuses12, refuses13, factRefusals, numberOf}
-use Rattle.words.specs.Words.{factsIn}
+use Rattle.sheets.specs.Reading.{factsAsRead}
+use Rattle.sheets.specs.Refusals.{factRefusals, numberOf}
+use Rattle.sheets.specs.Tests.{factSound, refuses12, refuses13}
+use Rattle.sheets.specs.Laws.Tests.{eqb-comm}
+use Rattle.sheets.specs.Laws.RecordLoops.{left, rowLaws, row-length, fill-ends, no-multiple, too-long, unsound-record, no-refusal}
+use Rattle.records.specs.ReadingLaws.{sheet-refused, sheet-read}
+use Rattle.read_facts.specs.FactSheets.{FactsRead, HasFields}
 
--- ---- a record's three zero bits, and a concept's second object
+-- ---- a record's three zero bits, and a concept's second object; z, k and b are the fields that the code took
 
-pub sound-concept : (x : ℕ) → x / 2 ^ 44 % 8 ≡ 0 → x / 2 ^ 47 ≡ 0 → eqb (x % 2 ^ 16) 0 ≡ factSound 16 x
-unfolding factSound
-sound-concept x zeros kind =
-    let low : x % 2 ^ 16 ≡ x / 1 % 2 ^ 16 = omega arith in
-    rw (eq-eqb (x / 2 ^ 44 % 8) 0 zeros, eq-eqb (x / 2 ^ 47 % 2) 0 (omega arith)) (ap (λ n. eqb n 0) low)
+module _ (x z : ℕ) (e : z ≡ factZeros sheetWidth x) where
+  pub unsound : (z ≡ 0 → ⊥) → false ≡ factSound sheetWidth x
+  unfolding factSound
+  unsound f = rw (← e, ne-eqb z 0 f)
 
-pub sound-role : (x : ℕ) → x < 2 ^ 48 → x / 2 ^ 44 % 8 ≡ 0 → (x / 2 ^ 47 ≡ 0 → ⊥) → true ≡ factSound 16 x
-unfolding factSound
-sound-role x b zeros kind =
-    let small : x / 2 ^ 47 < 2 = omega arith in
-    rw (eq-eqb (x / 2 ^ 44 % 8) 0 zeros, ne-eqb (x / 2 ^ 47 % 2) 0 (λ e. kind (sym (mod-eq-of-lt small) ∙ e)))
+  module _ (f : z ≡ 0) (k : ℕ) (d : k ≡ factKind sheetWidth x) where
+    pub sound-concept : (b : ℕ) → k ≡ 0 → b ≡ factSecond sheetWidth x → eqb b 0 ≡ factSound sheetWidth x
+    unfolding factSound
+    sound-concept b c g = rw (← e, f, ← d, c, ← g)
 
-pub unsound : (x : ℕ) → (x / 2 ^ 44 % 8 ≡ 0 → ⊥) → false ≡ factSound 16 x
-unfolding factSound
-unsound x zeros = rw (ne-eqb (x / 2 ^ 44 % 8) 0 zeros)
+    pub sound-zero : (b : ℕ) → k ≡ 0 → b ≡ factSecond sheetWidth x → eqb 0 b ≡ factSound sheetWidth x
+    sound-zero b c g = eqb-comm 0 b ∙ sound-concept b c g
+
+    pub sound-role : (k ≡ 0 → ⊥) → true ≡ factSound sheetWidth x
+    unfolding factSound
+    sound-role r = rw (← e, f, ← d, ne-eqb k 0 r)
 
 -- ---- the word of a fact
 
--- what factOf takes from a word
-of-word : (k n a b r : ℕ) → k < 2 → n < 2 ^ 12 → a < 2 ^ 16 → b < 2 ^ 16 → r ≡ k * 2 ^ 63 + n * 2 ^ 48 + a * 2 ^ 24 + b
-    → factOf 24 r ≡ pick (eqb k 0) (concept n a) (role n a b)
-unfolding factOf
-of-word k n a b r hk hn ha hb e =
-    let kind : r / 2 ^ 63 % 2 ≡ k = omega arith in
-    let number : r / 2 ^ 48 % 2 ^ 12 ≡ n = omega arith in
-    let first : r / 2 ^ 24 % 2 ^ 24 ≡ a = omega arith in
-    let second : r / 1 % 2 ^ 24 ≡ b = omega arith in
-    rw (kind, number, first, second)
+module _ (k n a b r : ℕ) (h : HasFields k n a b r) where
+  of-word : wordFact r ≡ pick (eqb k 0) (concept n a) (role n a b)
+  unfolding factOf
+  of-word = rw (h .kind-is, h .name-is, h .first-is, h .second-is)
 
-pub concept-word : (ps : List ℕ) (x r : ℕ) → x / 2 ^ 47 ≡ 0
-    → r ≡ 0 * 2 ^ 63 + x / 2 ^ 32 % 2 ^ 12 * 2 ^ 48 + x / 2 ^ 16 % 2 ^ 16 * 2 ^ 24 + 0
-    → factOf 24 r ≡ atomAsRead ps (factOf 16 x)
-unfolding factOf atomAsRead
-concept-word ps x r kind e =
-    rw (eq-eqb (x / 2 ^ 47 % 2) 0 (omega arith))
-    (of-word 0 (x / 2 ^ 32 % 2 ^ 12) (x / 2 ^ 16 % 2 ^ 16) 0 r (omega arith) (omega arith) (omega arith) (omega arith) e)
+  whole-word : (k ≡ 0 → b ≡ 0) → a < objectBound → b < objectBound → FactWord r
+  whole-word empty la lb = record {
+    zeros = h .zeros;
+    empty = λ z. h .second-is ∙ empty (sym (h .kind-is) ∙ z);
+    first-low = rw (h .first-is) la;
+    second-low = rw (h .second-is) lb;
+  }
 
--- a role's record is that role's fact
-pub role-record : (ps : List ℕ) (x : ℕ) (f : Fact) → x < 2 ^ 48 → (x / 2 ^ 47 ≡ 0 → ⊥)
-    → f ≡ atomAsRead ps (role (x / 2 ^ 32 % 2 ^ 12) (x / 2 ^ 16 % 2 ^ 16) (x % 2 ^ 16)) → f ≡ atomAsRead ps (factOf 16 x)
-unfolding factOf
-role-record ps x f b kind e =
-    let small : x / 2 ^ 47 < 2 = omega arith in
-    let low : x / 1 % 2 ^ 16 ≡ x % 2 ^ 16 = omega arith in
-    rw (ne-eqb (x / 2 ^ 47 % 2) 0 (λ z. kind (sym (mod-eq-of-lt small) ∙ z)), low) e
+pub concept-whole : (n a r : ℕ) → HasFields 0 n a 0 r → a < objectBound → FactWord r
+concept-whole n a r h la = whole-word 0 n a 0 r h (λ z. refl) la (omega arith)
 
-pub exchanged : (ps : List ℕ) (P m a b r : ℕ) (h : Bool) → a < 2 ^ 16 → b < 2 ^ 16 → m ≡ lower ps P → m < 2 ^ 12 → h ≡ isHigher ps P → h ≡ true
-    → r ≡ 1 * 2 ^ 63 + m * 2 ^ 48 + b * 2 ^ 24 + a → factOf 24 r ≡ atomAsRead ps (role P a b)
-unfolding atomAsRead
-exchanged ps P m a b r h ha hb low hm higher taken e =
-    of-word 1 m b a r (omega arith) hm hb ha e ∙ rw (← low, ← higher, taken)
+pub role-whole : (n a b r : ℕ) → HasFields 1 n a b r → a < objectBound → b < objectBound → FactWord r
+role-whole n a b r h = whole-word 1 n a b r h (λ z. absurd (omega arith))
 
-pub kept : (ps : List ℕ) (P m a b r : ℕ) (h : Bool) → a < 2 ^ 16 → b < 2 ^ 16 → m ≡ lower ps P → m < 2 ^ 12 → h ≡ isHigher ps P → h ≡ false
-    → r ≡ 1 * 2 ^ 63 + m * 2 ^ 48 + a * 2 ^ 24 + b → factOf 24 r ≡ atomAsRead ps (role P a b)
-unfolding atomAsRead
-kept ps P m a b r h ha hb low hm higher left e =
-    of-word 1 m a b r (omega arith) hm ha hb e ∙ rw (← low, ← higher, left)
+module _ (ps : List ℕ) (P m a b r : ℕ) (h : Bool) (low : m ≡ lower ps P) (higher : h ≡ isHigher ps P) where
+  pub exchanged : h ≡ true → HasFields 1 m b a r → wordFact r ≡ atomAsRead ps (role P a b)
+  unfolding atomAsRead
+  exchanged t f = of-word 1 m b a r f ∙ rw (← low, ← higher, t)
 
--- ---- the records from index i on
+  pub kept : h ≡ false → HasFields 1 m a b r → wordFact r ≡ atomAsRead ps (role P a b)
+  unfolding atomAsRead
+  kept t f = of-word 1 m a b r f ∙ rw (← low, ← higher, t)
 
-abbrev pub recordsFrom : List ℕ → ℕ → List ℕ
-recordsFrom s i = map (λ k. numberAt s (6 * k) 6) (numbers i (length s / 6 - i))
+module _ (ps : List ℕ) (x k n a r : ℕ) (e : k ≡ factKind sheetWidth x) (d : n ≡ factName sheetWidth x) (c : a ≡ factFirst sheetWidth x)
+  where
+    pub concept-read : k ≡ 0 → HasFields 0 n a 0 r → wordFact r ≡ atomAsRead ps (factOf sheetWidth x)
+    unfolding factOf atomAsRead
+    concept-read z h = of-word 0 n a 0 r h ∙ rw (← e, z, ← d, ← c)
 
-all-records : (s : List ℕ) → recordsFrom s 0 ≡ factRecords 16 s
-unfolding factRecords
-all-records s = rw (sub-zero (length s / 6))
+    pub role-read : (b : ℕ) → (k ≡ 0 → ⊥) → b ≡ factSecond sheetWidth x → wordFact r ≡ atomAsRead ps (role n a b)
+        → wordFact r ≡ atomAsRead ps (factOf sheetWidth x)
+    unfolding factOf
+    role-read b z g h = h ∙ rw (← e, ne-eqb k 0 z, ← d, ← c, ← g)
 
-next-record : (s : List ℕ) (i : ℕ) → i < length s / 6 → recordsFrom s i ≡ numberAt s (6 * i) 6 ∷ recordsFrom s (i + 1)
-unfolding numbers
-next-record s i h =
-    let one : length s / 6 - i ≡ suc (length s / 6 - (i + 1)) = omega arith in
-    rw (one, add-one)
+-- ---- the table
 
-no-record : (s : List ℕ) (i : ℕ) → length s / 6 ≤ i → recordsFrom s i ≡ []
-unfolding numbers
-no-record s i h = rw (sub-eq-zero-of-le h)
+-- what is read of a record
+abbrev pub factRead : List ℕ → ℕ → Fact
+factRead ps x = atomAsRead ps (factOf sheetWidth x)
 
--- ---- every record is sound
+abbrev pub factCount : List ℕ → ℕ
+factCount s = length s / recordBytes sheetWidth
 
-pub all-sound-start : (s : List ℕ) → all (factSound 16) (recordsFrom s 0) ≡ all (factSound 16) (factRecords 16 s)
-all-sound-start s = ap (all (factSound 16)) (all-records s)
+-- the facts from the i-th record on
+abbrev pub factsLeft : List ℕ → List ℕ → ℕ → List Fact
+factsLeft ps s i = map (factRead ps) (left (recordBytes sheetWidth) s 0 (factCount s) i)
 
-pub all-sound-next : (s : List ℕ) (i x : ℕ) (h b : Bool) → i < length s / 6 → x ≡ numberAt s (6 * i) 6 → h ≡ factSound 16 x → not h ≡ false
-    → all (factSound 16) (recordsFrom s i) ≡ b → all (factSound 16) (recordsFrom s (i + 1)) ≡ b
-unfolding all
-all-sound-next s i x h b lt e sound passed rest =
-    let here : factSound 16 (numberAt s (6 * i) 6) ≡ true = ap (factSound 16) (sym e) ∙ sym sound ∙ not-false h passed in
-    rw (next-record s i lt, here) at rest
+module _ (ps s : List ℕ) where
+  as-read : factsAsRead ps sheetWidth s ≡ map (factRead ps) (factRecords sheetWidth s)
+  unfolding factsAsRead factsOf
+  as-read = map-map (atomAsRead ps) (factOf sheetWidth) (factRecords sheetWidth s)
 
-pub all-sound-stop : (s : List ℕ) (i x : ℕ) (h b : Bool) → i < length s / 6 → x ≡ numberAt s (6 * i) 6 → h ≡ factSound 16 x → not h ≡ true
-    → all (factSound 16) (recordsFrom s i) ≡ b → false ≡ b
-unfolding all
-all-sound-stop s i x h b lt e sound failed rest =
-    let here : factSound 16 (numberAt s (6 * i) 6) ≡ false = ap (factSound 16) (sym e) ∙ sym sound ∙ not-true h failed in
-    rw (next-record s i lt, here) at rest
+  pub facts-filled : (table : List ℕ) (i : ℕ) → i ≤ factCount s → factCount s ≤ i
+      → map wordFact (take i table) ++ factsLeft ps s i ≡ map (factRead ps) (factRecords sheetWidth s)
+      → factsIn table (factCount s) ≡ factsAsRead ps sheetWidth s
+  unfolding factsIn
+  facts-filled table i most past so-far =
+      fill-ends wordFact (factRead ps) (recordBytes sheetWidth) s 0 (factCount s) table i (map (factRead ps) (factRecords sheetWidth s))
+      so-far most past
+      ∙ sym as-read
 
-pub all-sound-end : (s : List ℕ) (i : ℕ) (b : Bool) → length s / 6 ≤ i → all (factSound 16) (recordsFrom s i) ≡ b → true ≡ b
-unfolding all
-all-sound-end s i b past rest = rw (no-record s i past) at rest
+  facts-counted : factCount s ≡ length (factsAsRead ps sheetWidth s)
+  facts-counted =
+      sym (ap length as-read ∙ length-map (factRecords sheetWidth s) (factRead ps) ∙ row-length (recordBytes sheetWidth) s 0 (factCount s))
 
--- ---- the table is filled
+-- its words, bit for bit
+pub no-words : (table : List ℕ) → FactWords table 0
+no-words table = record { each = λ i h. absurd (omega arith) }
 
-abbrev pub factsFrom : List ℕ → List ℕ → ℕ → List Fact
-factsFrom ps s i = map (atomAsRead ps) (map (factOf 16) (recordsFrom s i))
+pub word-more : (table : List ℕ) (i n v : ℕ) → FactWords table i → i < n → n ≤ length table → FactWord v → FactWords (set table i v) (i + 1)
+word-more table i n v h l room w = record {
+  each = below-more (λ j. FactWord (getD (set table i v) j 0)) i
+      (λ j m. subst FactWord (sym (getD-set-other table i j v 0 (λ e. omega arith))) (h .each j m))
+      (subst FactWord (sym (getD-set-same table i v 0 (omega arith))) w);
+}
 
-pub fill-start : (ps s table : List ℕ) → factsIn table 0 ++ factsFrom ps s 0 ≡ factsAsRead ps 16 s
-unfolding factsIn factsAsRead factsOf
-fill-start ps s table = ap (λ rs. map (atomAsRead ps) (map (factOf 16) rs)) (all-records s)
+pub words-filled : (table : List ℕ) (i n : ℕ) → FactWords table i → i ≤ n → n ≤ i → FactWords table n
+words-filled table i n h most past = let e : i ≡ n = omega arith in subst (FactWords table) e h
 
-filled : (table : List ℕ) (i r : ℕ) → i < length table → factsIn (set table i r) (i + 1) ≡ factsIn table i ++ (factOf 24 r ∷ [])
-unfolding factsIn
-filled table i r room = rw add-one (ap (map (factOf 24)) (take-suc-set table i r room) ∙ map-append (factOf 24) (take i table) (r ∷ []))
+-- ---- the sheet's refusals
 
-pub fill-next : (ps s table₀ table : List ℕ) (i x r : ℕ) (fs : List Fact) → length s ≤ 60000 → 10000 ≤ length table₀
-    → length table ≡ length table₀ → i < length s / 6 → x ≡ numberAt s (6 * i) 6
-    → factOf 24 r ≡ atomAsRead ps (factOf 16 x) → factsIn table i ++ factsFrom ps s i ≡ fs
-    → factsIn (set table i r) (i + 1) ++ factsFrom ps s (i + 1) ≡ fs
-fill-next ps s table₀ table i x r fs short long same lt e word rest =
-    let room : i < length table = omega arith in
-    let here : factOf 24 r ≡ atomAsRead ps (factOf 16 (numberAt s (6 * i) 6)) = rw (← e) word in
-    rw (filled table i r room, append-snoc, here) (rw (next-record s i lt) at rest)
+pub facts-refused : (ps s table : List ℕ) (number count k : ℕ) → number ≡ k → leb 1 k ≡ true
+    → k ≡ numberOf (firstRefusal (factRefusals sheetWidth s))
+    → count ≡ 0 → FactsRead ps s table number count
+facts-refused ps s table number count k e some is z = record {
+  sheet =
+      sheet-refused (numberOf (firstRefusal (factRefusals sheetWidth s))) (factsAsRead ps sheetWidth s) (factsIn table) mostFacts
+      number count k e some is z;
+  words = subst (FactWords table) (sym z) (no-words table);
+}
 
-pub fill-end : (ps s table : List ℕ) (i : ℕ) (fs : List Fact) → i ≤ length s / 6 → length s / 6 ≤ i → factsIn table i ++ factsFrom ps s i ≡ fs
-    → factsIn table (length s / 6) ≡ fs
-fill-end ps s table i fs most past rest =
-    let e : length s / 6 ≡ i = omega arith in
-    rw e (sym (append-nil (factsIn table i)) ∙ rw (no-record s i past) at rest)
+module _ (s : List ℕ) where
+  abbrev sound : Bool
+  sound = all (factSound sheetWidth) (factRecords sheetWidth s)
 
--- ---- 12 and 13
+  pub facts-odd : (length s % recordBytes sheetWidth ≡ 0 → ⊥) → 12 ≡ numberOf (firstRefusal (factRefusals sheetWidth s))
+  unfolding factRefusals refuses12 refuses13
+  facts-odd = no-multiple 12 13 (recordBytes sheetWidth) (mostFactBytes sheetWidth) s sound
 
-abbrev refusal : List ℕ → ℕ
-refusal s = numberOf (firstRefusal (factRefusals 16 s))
+  module _ (even : length s % recordBytes sheetWidth ≡ 0) (limit : ℕ) where
+    pub facts-long : limit < length s → leb (mostFactBytes sheetWidth) limit ≡ true
+        → 12 ≡ numberOf (firstRefusal (factRefusals sheetWidth s))
+    unfolding factRefusals refuses12 refuses13
+    facts-long = too-long 12 13 (recordBytes sheetWidth) (mostFactBytes sheetWidth) s sound even limit
 
-pub odd-length : (s : List ℕ) (r : ℕ) → (length s % 6 ≡ 0 → ⊥) → r ≡ 12 → r ≡ refusal s
-unfolding factRefusals refuses12 firstRefusal numberOf
-odd-length s r odd e = rw (ne-eqb (length s % 6) 0 odd) e
+    module _ (short : length s ≤ limit) (l : leb limit (mostFactBytes sheetWidth) ≡ true) (r : Bool) (e : r ≡ sound) where
+      pub unsound-fact : r ≡ false → 13 ≡ numberOf (firstRefusal (factRefusals sheetWidth s))
+      unfolding factRefusals refuses12 refuses13
+      unsound-fact f = unsound-record 12 13 (recordBytes sheetWidth) (mostFactBytes sheetWidth) s sound even limit short l (sym e ∙ f)
 
-pub too-long : (s : List ℕ) (r most : ℕ) → length s % 6 ≡ 0 → most < length s → 60000 ≤ most → r ≡ 12 → r ≡ refusal s
-unfolding factRefusals refuses12 firstRefusal numberOf
-too-long s r most even long limit e = rw (eq-eqb (length s % 6) 0 even, lt-ltb 60000 (length s) (omega arith)) e
+      pub facts-read : (ps table : List ℕ) → r ≡ true → factsIn table (factCount s) ≡ factsAsRead ps sheetWidth s
+          → FactWords table (factCount s)
+          → FactsRead ps s table 0 (factCount s)
+      unfolding factRefusals refuses12 refuses13
+      facts-read ps table t read words = record {
+        sheet =
+            sheet-read (numberOf (firstRefusal (factRefusals sheetWidth s))) (factsAsRead ps sheetWidth s) (factsIn table) mostFacts
+            0 (factCount s) refl
+            (no-refusal 12 13 (recordBytes sheetWidth) (mostFactBytes sheetWidth) s sound even limit short l (sym e ∙ t))
+            read (facts-counted ps s) (omega (arith, leb-true limit (mostFactBytes sheetWidth) l));
+        words = words;
+      }
 
-pub unsound-fact : (s : List ℕ) (r most : ℕ) (h : Bool) → length s % 6 ≡ 0 → length s ≤ most → most ≤ 60000 → h ≡ all (factSound 16) (factRecords 16 s) → not h ≡ true → r ≡ 13 → r ≡ refusal s
-unfolding factRefusals refuses12 refuses13 firstRefusal numberOf
-unsound-fact s r most h even short limit sound failed e = rw (eq-eqb (length s % 6) 0 even, le-ltb 60000 (length s) (omega arith), ← sound, not-true h failed) e
-
-pub no-refusal : (s : List ℕ) (most : ℕ) (h : Bool) → length s % 6 ≡ 0 → length s ≤ most → most ≤ 60000 → h ≡ all (factSound 16) (factRecords 16 s) → not h ≡ false → 0 ≡ refusal s
-unfolding factRefusals refuses12 refuses13 firstRefusal numberOf
-no-refusal s most h even short limit sound passed = rw (eq-eqb (length s % 6) 0 even, le-ltb 60000 (length s) (omega arith), ← sound, not-false h passed)
-
-pub ruleset laws = (needs, sound-concept, sound-role, unsound, concept-word, role-record, exchanged, kept, all-sound-start, all-sound-next, all-sound-stop, all-sound-end, fill-start, fill-next, fill-end, odd-length, too-long, unsound-fact, no-refusal)
+pub ruleset laws = (
+  needs,
+  rowLaws,
+  unsound,
+  sound-concept,
+  sound-zero,
+  sound-role,
+  concept-whole,
+  role-whole,
+  exchanged,
+  kept,
+  concept-read,
+  role-read,
+  facts-filled,
+  no-words,
+  word-more,
+  words-filled,
+  facts-refused,
+  facts-odd,
+  facts-long,
+  unsound-fact,
+  facts-read,
+)

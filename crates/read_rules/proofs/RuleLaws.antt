@@ -7,12 +7,13 @@ use mathlib.Core.Bool.{Bool, true, false, _&&_, xor}
 use mathlib.Core.List.{List}
 use lib.Dec.{eqb, ltb}
 use borrow.Author.Needs.{needs}
-use borrow.Author.Tests.{lt-ltb, le-ltb, eq-eqb, ne-eqb, ltb-true, eqb-true}
+use borrow.Author.Tests.{lt-ltb, le-ltb, eq-eqb, ne-eqb, ltb-true}
 use Rattle.theory.specs.Lists.{pick}
 use Rattle.theory.specs.Syntax.{has, hasInverse, conceptInclusion, roleInclusion}
-use Rattle.words.specs.Records.{basicOf, ruleOf}
+use Rattle.words.specs.Records.{ruleKind, leftForm, leftName, rightForm, rightName, isRule, basicOf, ruleIn}
+use Rattle.words.specs.Limits.{nameBound}
 use Rattle.sheets.specs.Partners.{isHigher, lower, basicAsRead, ruleAsRead}
-use Rattle.sheets.specs.Refusals.{isRule}
+use Rattle.read_rules.specs.RuleWords.{described, descriptionBound}
 
 -- ---- kinds and forms
 
@@ -43,13 +44,24 @@ kind-two k r x a b p e = rw (eq-eqb k 2 p, ne-eqb k 1 (λ q. omega arith)) e
 pub kind-other : (k : ℕ) (x a b : Bool) → (k ≡ 1 → ⊥) → (k ≡ 2 → ⊥) → false ≡ pick (eqb k 1) x (eqb k 2 && a && b)
 kind-other k x a b p q = rw (ne-eqb k 1 p, ne-eqb k 2 q)
 
-pub is-rule : (x : ℕ) (r : Bool)
-    → r ≡ pick (eqb (x / 268435456 % 16) 1) (ltb (x / 67108864 % 4) 3 && ltb (x / 4096 % 4) 3) (eqb (x / 268435456 % 16) 2 && eqb (x / 67108864 % 4) 0 && ltb (x / 4096 % 4) 2)
-    → r ≡ isRule x
+pub is-rule : (x k l r : ℕ) (b : Bool) → k ≡ ruleKind x → l ≡ leftForm x → r ≡ rightForm x
+    → b ≡ pick (eqb k 1) (ltb l 3 && ltb r 3) (eqb k 2 && eqb l 0 && ltb r 2) → b ≡ isRule x
 unfolding isRule
-is-rule x r e = e
+is-rule x k l r b d e f g = rw (← d, ← e, ← f) g
 
-pub ruleset formLaws = (needs, forms-both, forms-not-right, forms-not-left, direction-both, direction-not-right, direction-not-left, kind-one, kind-two, kind-other, is-rule)
+pub ruleset formLaws = (
+  needs,
+  forms-both,
+  forms-not-right,
+  forms-not-left,
+  direction-both,
+  direction-not-right,
+  direction-not-left,
+  kind-one,
+  kind-two,
+  kind-other,
+  is-rule,
+)
 
 -- ---- a description as read
 
@@ -61,32 +73,31 @@ one-or-two (suc (suc (suc f))) p q = absurd (omega arith)
 
 turned-form : (p : List ℕ) (f n : ℕ) → (f ≡ 1) ⊎ (f ≡ 2) → isHigher p n ≡ true → basicOf (3 - f) (lower p n) ≡ basicAsRead p (basicOf f n)
 unfolding basicOf basicAsRead
-turned-form p f n (inl e) h = subst (λ (k : ℕ). basicOf (3 - k) (lower p n) ≡ basicAsRead p (basicOf k n)) (sym e) (sym (ap (λ b. pick b (hasInverse (lower p n)) (has (lower p n))) h))
-turned-form p f n (inr e) h = subst (λ (k : ℕ). basicOf (3 - k) (lower p n) ≡ basicAsRead p (basicOf k n)) (sym e) (sym (ap (λ b. pick b (has (lower p n)) (hasInverse (lower p n))) h))
+turned-form p f n (inl e) h = rw (e, h)
+turned-form p f n (inr e) h = rw (e, h)
 
 kept-form : (p : List ℕ) (f n : ℕ) → (f ≡ 1) ⊎ (f ≡ 2) → isHigher p n ≡ false → basicOf f (lower p n) ≡ basicAsRead p (basicOf f n)
 unfolding basicOf basicAsRead
-kept-form p f n (inl e) h = subst (λ (k : ℕ). basicOf k (lower p n) ≡ basicAsRead p (basicOf k n)) (sym e) (sym (ap (λ b. pick b (hasInverse (lower p n)) (has (lower p n))) h))
-kept-form p f n (inr e) h = subst (λ (k : ℕ). basicOf k (lower p n) ≡ basicAsRead p (basicOf k n)) (sym e) (sym (ap (λ b. pick b (has (lower p n)) (hasInverse (lower p n))) h))
+kept-form p f n (inl e) h = rw (e, h)
+kept-form p f n (inr e) h = rw (e, h)
 
 same-basic : {f g m n : ℕ} → f ≡ g → m ≡ n → basicOf f m ≡ basicOf g n
 same-basic d e = cc
 
-pub name-as-read : (p : List ℕ) (d : ℕ) → d / 4096 ≡ 0 → basicOf (d / 4096) (d % 4096) ≡ basicAsRead p (basicOf (d / 4096) (d % 4096))
+pub name-as-read : (p : List ℕ) (form n : ℕ) → form ≡ 0 → n < nameBound → described n ≡ basicAsRead p (basicOf form n)
 unfolding basicOf basicAsRead
-name-as-read p d e = subst (λ (k : ℕ). basicOf k (d % 4096) ≡ basicAsRead p (basicOf k (d % 4096))) (sym e) refl
+name-as-read p form n e l =
+    let none : n / nameBound ≡ 0 = omega arith in
+    let same : n % nameBound ≡ n = omega arith in
+    rw (e, none, same)
 
-pub turned-as-read : (p : List ℕ) (d low : ℕ) (h : Bool) → d < 12288 → (d / 4096 ≡ 0 → ⊥) → low ≡ lower p (d % 4096) → low < 4096
-    → h ≡ isHigher p (d % 4096) → h ≡ true
-    → basicOf (((3 - d / 4096) * 4096 + low) / 4096) (((3 - d / 4096) * 4096 + low) % 4096) ≡ basicAsRead p (basicOf (d / 4096) (d % 4096))
-turned-as-read p d low h bound form is small high holds =
-    same-basic (omega arith) (omega arith) ∙ turned-form p (d / 4096) (d % 4096) (one-or-two (d / 4096) (omega arith) form) (sym high ∙ holds)
+module _ (p : List ℕ) (form n low : ℕ) (h : Bool) (few : form < 3) (some : form ≡ 0 → ⊥) (is : low ≡ lower p n)
+    (small : low < nameBound) (high : h ≡ isHigher p n) where
+  pub turned-as-read : h ≡ true → described ((3 - form) * nameBound + low) ≡ basicAsRead p (basicOf form n)
+  turned-as-read holds = same-basic (omega arith) (omega arith) ∙ turned-form p form n (one-or-two form few some) (sym high ∙ holds)
 
-pub kept-as-read : (p : List ℕ) (d low : ℕ) (h : Bool) → d < 12288 → (d / 4096 ≡ 0 → ⊥) → low ≡ lower p (d % 4096) → low < 4096
-    → h ≡ isHigher p (d % 4096) → h ≡ false
-    → basicOf ((d / 4096 * 4096 + low) / 4096) ((d / 4096 * 4096 + low) % 4096) ≡ basicAsRead p (basicOf (d / 4096) (d % 4096))
-kept-as-read p d low h bound form is small high fails =
-    same-basic (omega arith) (omega arith) ∙ kept-form p (d / 4096) (d % 4096) (one-or-two (d / 4096) (omega arith) form) (sym high ∙ fails)
+  pub kept-as-read : h ≡ false → described (form * nameBound + low) ≡ basicAsRead p (basicOf form n)
+  kept-as-read fails = same-basic (omega arith) (omega arith) ∙ kept-form p form n (one-or-two form few some) (sym high ∙ fails)
 
 -- ---- a direction as read
 
@@ -123,82 +134,75 @@ pub ruleset readLaws = (needs, name-as-read, turned-as-read, kept-as-read, flip-
 
 -- ---- a rule as read
 
-pub and-both : (a b : Bool) → (a && b) ≡ true → (a ≡ true) × (b ≡ true)
+and-both : (a b : Bool) → (a && b) ≡ true → (a ≡ true) × (b ≡ true)
 and-both true b e = (refl, e)
 and-both false b e = absurd (let z : _≡_ {A = ℕ} 0 1 = cc in omega arith)
 
-concept-forms : (x : ℕ) → isRule x ≡ true → x / 268435456 ≡ 1 → (x / 67108864 % 4 < 3) × (x / 4096 % 4 < 3)
-unfolding isRule
-concept-forms x e k =
-    let f : (ltb (x / 67108864 % 4) 3 && ltb (x / 4096 % 4) 3) ≡ true = rw (eq-eqb (x / 268435456 % 16) 1 (omega arith)) at e in
-    let g = and-both (ltb (x / 67108864 % 4) 3) (ltb (x / 4096 % 4) 3) f in
-    (ltb-true (x / 67108864 % 4) 3 (g .0), ltb-true (x / 4096 % 4) 3 (g .1))
+module _ (x : ℕ) (rule : isRule x ≡ true) where
+  concept-forms : ruleKind x ≡ 1 → (leftForm x < 3) × (rightForm x < 3)
+  unfolding isRule
+  concept-forms k =
+      let f : (ltb (leftForm x) 3 && ltb (rightForm x) 3) ≡ true = rw (eq-eqb (ruleKind x) 1 k) at rule in
+      let g = and-both (ltb (leftForm x) 3) (ltb (rightForm x) 3) f in
+      (ltb-true (leftForm x) 3 (g .0), ltb-true (rightForm x) 3 (g .1))
 
-role-forms : (x : ℕ) → isRule x ≡ true → x < 4294967296 → (x / 268435456 ≡ 1 → ⊥) → (x / 268435456 % 16 ≡ 2) × (x / 4096 % 4 < 2)
-unfolding isRule
-role-forms x e b k =
-    let kind : ℕ = x / 268435456 % 16 in
-    let f : (eqb kind 2 && eqb (x / 67108864 % 4) 0 && ltb (x / 4096 % 4) 2) ≡ true = rw (ne-eqb (x / 268435456 % 16) 1 (λ q. k (omega arith))) at e in
-    let g = and-both (eqb kind 2 && eqb (x / 67108864 % 4) 0) (ltb (x / 4096 % 4) 2) f in
-    (eqb-true kind 2 (and-both (eqb kind 2) (eqb (x / 67108864 % 4) 0) (g .0) .0), ltb-true (x / 4096 % 4) 2 (g .1))
+  -- a form that the code took of a rule of kind 1, or of kind 2
+  pub left-named : (f : ℕ) → f ≡ leftForm x → ruleKind x ≡ 1 → f < 3
+  left-named f e k = rw e (concept-forms k .0)
 
-pub left-description : (x : ℕ) → isRule x ≡ true → x / 268435456 ≡ 1 → x / 16384 % 16384 < 12288
-left-description x e k = let f = concept-forms x e k in omega arith
+  pub right-named : (f : ℕ) → f ≡ rightForm x → ruleKind x ≡ 1 → f < 3
+  right-named f e k = rw e (concept-forms k .1)
 
-pub right-description : (x : ℕ) → isRule x ≡ true → x / 268435456 ≡ 1 → x % 16384 < 12288
-right-description x e k = let f = concept-forms x e k in omega arith
+  pub right-direction : (f : ℕ) → f ≡ rightForm x → (ruleKind x ≡ 1 → ⊥) → f < 2
+  unfolding isRule
+  right-direction f e k =
+      let g : (eqb (ruleKind x) 2 && eqb (leftForm x) 0 && ltb (rightForm x) 2) ≡ true = rw (ne-eqb (ruleKind x) 1 k) at rule in
+      rw e (ltb-true (rightForm x) 2 (and-both (eqb (ruleKind x) 2 && eqb (leftForm x) 0) (ltb (rightForm x) 2) g .1))
 
-pub right-form : (x : ℕ) → isRule x ≡ true → x < 4294967296 → (x / 268435456 ≡ 1 → ⊥) → x / 4096 % 4 < 2
-right-form x e b k = role-forms x e b k .1
-
--- a rule by its two descriptions of 14 bits, and by its roles and right form
-concept-rule : (x : ℕ) → x / 268435456 % 16 ≡ 1
-    → ruleOf x ≡ conceptInclusion (basicOf (x / 16384 % 16384 / 4096) (x / 16384 % 16384 % 4096)) (basicOf (x % 16384 / 4096) (x % 16384 % 4096))
-unfolding ruleOf
-concept-rule x k =
-    let a : x / 67108864 % 4 ≡ x / 16384 % 16384 / 4096 = omega arith in
-    let b : x / 16384 % 4096 ≡ x / 16384 % 16384 % 4096 = omega arith in
-    let c : x / 4096 % 4 ≡ x % 16384 / 4096 = omega arith in
-    let d : x / 1 % 4096 ≡ x % 16384 % 4096 = omega arith in
-    rw (eq-eqb (x / 268435456 % 16) 1 k) (cc)
-
-role-rule : (x : ℕ) → (x / 268435456 % 16 ≡ 1 → ⊥) → ruleOf x ≡ roleInclusion (x / 16384 % 4096) (eqb (x / 4096 % 4) 1) (x % 4096)
-unfolding ruleOf
-role-rule x k =
-    let d : x / 1 % 4096 ≡ x % 4096 = omega arith in
-    rw (ne-eqb (x / 268435456 % 16) 1 k) (cc)
-
-pub concept-rule-as-read : (p : List ℕ) (x l r : ℕ) → x / 268435456 ≡ 1 → l < 12288 → r < 12288
-    → basicOf (l / 4096) (l % 4096) ≡ basicAsRead p (basicOf (x / 16384 % 16384 / 4096) (x / 16384 % 16384 % 4096))
-    → basicOf (r / 4096) (r % 4096) ≡ basicAsRead p (basicOf (x % 16384 / 4096) (x % 16384 % 4096))
-    → ruleOf (268435456 + l * 16384 + r) ≡ ruleAsRead p (ruleOf x)
-unfolding ruleAsRead
-concept-rule-as-read p x l r k bl br el er =
+-- a rule's word by its two descriptions, and by its roles and right form
+concept-word : (l r : ℕ) → l < descriptionBound → r < descriptionBound
+    → ruleIn (268435456 + l * 16384 + r) ≡ conceptInclusion (described l) (described r)
+unfolding ruleIn
+concept-word l r bl br =
     let y : ℕ = 268435456 + l * 16384 + r in
     let one : y / 268435456 ≡ 1 = omega arith in
-    let a : y / 16384 % 16384 ≡ l = omega arith in
-    let b : y % 16384 ≡ r = omega arith in
-    let f = concept-rule y (ap (λ (n : ℕ). n % 16) one) in
-    let g : ruleAsRead p (ruleOf x) ≡ conceptInclusion (basicAsRead p (basicOf (x / 16384 % 16384 / 4096) (x / 16384 % 16384 % 4096))) (basicAsRead p (basicOf (x % 16384 / 4096) (x % 16384 % 4096))) = ap (ruleAsRead p) (concept-rule x (omega arith)) in
-    cc
+    let kind : ruleKind y ≡ 1 = ap (λ n. n % 16) one in
+    let a : leftForm y ≡ l / nameBound = omega arith in
+    let b : leftName y ≡ l % nameBound = omega arith in
+    let c : rightForm y ≡ r / nameBound = omega arith in
+    let d : rightName y ≡ r % nameBound = omega arith in
+    rw (eq-eqb (ruleKind y) 1 kind, a, b, c, d)
 
-remainder : (u d : ℕ) → d < 2 → (u * 4 + d) % 4 ≡ d
-remainder u d b = omega arith
-
-pub role-rule-as-read : (p : List ℕ) (x l d r : ℕ) → isRule x ≡ true → x < 4294967296 → (x / 268435456 ≡ 1 → ⊥)
-    → l ≡ lower p (x / 16384 % 4096) → l < 4096 → r ≡ lower p (x % 4096) → r < 4096
-    → eqb d 1 ≡ xor (eqb (x / 4096 % 4) 1) (xor (isHigher p (x / 16384 % 4096)) (isHigher p (x % 4096))) → d < 2
-    → ruleOf (536870912 + l * 16384 + d * 4096 + r) ≡ ruleAsRead p (ruleOf x)
-unfolding ruleAsRead
-role-rule-as-read p x l d r e bound k el bl er br ed bd =
+role-word : (l d r : ℕ) → l < nameBound → d < 2 → r < nameBound
+    → ruleIn (536870912 + l * 16384 + d * 4096 + r) ≡ roleInclusion l (eqb d 1) r
+unfolding ruleIn
+role-word l d r bl bd br =
     let y : ℕ = 536870912 + l * 16384 + d * 4096 + r in
     let two : y / 268435456 ≡ 2 = omega arith in
-    let a : y / 16384 % 4096 ≡ l = omega arith in
-    let b : y % 4096 ≡ r = omega arith in
+    let kind : ruleKind y ≡ 2 = ap (λ n. n % 16) two in
+    let a : leftName y ≡ l = omega arith in
     let above : y / 4096 ≡ (32768 + l) * 4 + d = omega arith in
-    let c : y / 4096 % 4 ≡ d = ap (λ (n : ℕ). n % 4) above ∙ remainder (32768 + l) d bd in
-    let f = role-rule y (λ q. omega (arith, ap (λ (n : ℕ). n % 16) two)) in
-    let g : ruleAsRead p (ruleOf x) ≡ roleInclusion (lower p (x / 16384 % 4096)) (xor (eqb (x / 4096 % 4) 1) (xor (isHigher p (x / 16384 % 4096)) (isHigher p (x % 4096)))) (lower p (x % 4096)) = ap (ruleAsRead p) (role-rule x (λ q. k (omega arith))) in
-    cc
+    let b : rightForm y ≡ d = ap (λ n. n % 4) above ∙ remainder (32768 + l) d bd in
+    let c : rightName y ≡ r = omega arith in
+    rw (ne-eqb (ruleKind y) 1 (λ q. omega arith), a, b, c)
+  where
+    remainder : (u d : ℕ) → d < 2 → (u * 4 + d) % 4 ≡ d
+    remainder u d b = omega arith
 
-pub ruleset ruleLaws = (needs, left-description, right-description, right-form, concept-rule-as-read, role-rule-as-read)
+module _ (p : List ℕ) (x : ℕ) where
+  pub concept-rule-as-read : (l r fl nl fr nr : ℕ) → ruleKind x ≡ 1 → l < descriptionBound → r < descriptionBound
+      → described l ≡ basicAsRead p (basicOf fl nl) → fl ≡ leftForm x → nl ≡ leftName x
+      → described r ≡ basicAsRead p (basicOf fr nr) → fr ≡ rightForm x → nr ≡ rightName x
+      → ruleIn (268435456 + l * 16384 + r) ≡ ruleAsRead p (ruleIn x)
+  unfolding ruleIn ruleAsRead
+  concept-rule-as-read l r fl nl fr nr k bl br el fl= nl= er fr= nr= =
+      concept-word l r bl br ∙ rw (eq-eqb (ruleKind x) 1 k, ← fl=, ← nl=, ← fr=, ← nr=, el, er)
+
+  pub role-rule-as-read : (f m n l d r : ℕ) → (ruleKind x ≡ 1 → ⊥) → f ≡ rightForm x → m ≡ leftName x → n ≡ rightName x
+      → l ≡ lower p m → l < nameBound → r ≡ lower p n → r < nameBound → eqb d 1 ≡ xor (eqb f 1) (xor (isHigher p m) (isHigher p n)) → d < 2
+      → ruleIn (536870912 + l * 16384 + d * 4096 + r) ≡ ruleAsRead p (ruleIn x)
+  unfolding ruleIn ruleAsRead
+  role-rule-as-read f m n l d r k ef em en el bl er br ed bd =
+      role-word l d r bl bd br ∙ rw (ne-eqb (ruleKind x) 1 k, ← ef, ← em, ← en, el, er, ed)
+
+pub ruleset ruleLaws = (needs, left-named, right-named, right-direction, concept-rule-as-read, role-rule-as-read)

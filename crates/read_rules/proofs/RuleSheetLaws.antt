@@ -1,147 +1,93 @@
--- A rule sheet, record by record: what is left to do of it, and its refusals.
-use mathlib.Core.Path.{_≡_, sym, ap, _∙_}
-use Prim.Native.Nat.{ℕ, suc, _+_, _-_, _*_, _/_, _%_, _<_, _≤_}
-use native.Mathlib.Numerals.{add-one}
+-- A rule sheet, record by record: the loops over it, by the laws for records in a row, and its refusals.
+use mathlib.Core.Path.{_≡_, refl, sym, ap, _∙_, subst}
+use Prim.Native.Nat.{ℕ, _/_, _%_, _≤_, _<_}
 use native.Mathlib.Omega.{arith}
-use mathlib.Core.Bool.{Bool, true, false, _&&_}
-use mathlib.Core.List.{List, [], _∷_, _++_, map, append-assoc, append-nil, map-append}
-use lib.ListN.{length, take, set}
-use lib.Seq.{take-suc-set}
+use mathlib.Core.Bool.{Bool, true, false}
+use mathlib.Core.List.{List, _++_, map, map-map}
+use lib.Dec.{T, leb}
+use lib.ListN.{length, take, length-map}
 use borrow.Author.Needs.{needs}
-use borrow.Author.Tests.{lt-ltb, le-ltb, eq-eqb, ne-eqb, not-true, not-false}
-use Rattle.theory.specs.Lists.{all, numbers}
+use borrow.Author.Tests.{leb-true}
+use Rattle.theory.specs.Lists.{all}
 use Rattle.theory.specs.Refusals.{firstRefusal}
 use Rattle.theory.specs.Syntax.{Rule}
-use Rattle.sheets.specs.Bits.{numberAt}
-use Rattle.sheets.specs.Format.{ruleRecords}
-use Rattle.words.specs.Records.{ruleOf}
-use Rattle.sheets.specs.Partners.{ruleAsRead}
-use Rattle.sheets.specs.Refusals.{isRule, refuses1, refuses2, ruleRefusals, numberOf, rulesAsRead}
+use Rattle.words.specs.Limits.{sheetWidth, ruleBytes, mostRules, mostRuleBytes}
+use Rattle.words.specs.Records.{isRule, ruleIn}
 use Rattle.words.specs.Words.{rulesIn}
-use Rattle.read_rules.proofs.RuleLaws.{and-both}
+use Rattle.sheets.specs.Format.{ruleRecords}
+use Rattle.sheets.specs.Partners.{ruleAsRead}
+use Rattle.sheets.specs.Refusals.{ruleRefusals, numberOf}
+use Rattle.sheets.specs.Reading.{rulesAsRead}
+use Rattle.sheets.specs.Tests.{refuses1, refuses2}
+use Rattle.sheets.specs.Laws.RuleRefusals.{rules-all}
+use Rattle.sheets.specs.Laws.RecordLoops.{Nth, left, rowLaws, each-passes, row-length, fill-ends, no-multiple, too-long, unsound-record}
+use Rattle.sheets.specs.Laws.RecordLoops.{no-refusal}
+use Rattle.records.specs.ReadingLaws.{sheet-refused, sheet-read}
+use Rattle.read_rules.specs.RuleWords.{RulesRead}
 
--- ---- the records from the i-th on
-
-unfoldable pub recordsFrom : List ℕ → ℕ → List ℕ
-recordsFrom s i = map (λ k. numberAt s (4 * k) 4) (numbers i (length s / 4 - i))
-
-records-start : (s : List ℕ) → recordsFrom s 0 ≡ ruleRecords s
-unfolding recordsFrom ruleRecords
-records-start s =
-    let e : length s / 4 - 0 ≡ length s / 4 = omega arith in
-    ap (λ (n : ℕ). map (λ k. numberAt s (4 * k) 4) (numbers 0 n)) e
-
-records-next : (s : List ℕ) (i : ℕ) → i < length s / 4 → recordsFrom s i ≡ numberAt s (4 * i) 4 ∷ recordsFrom s (i + 1)
-unfolding recordsFrom numbers
-records-next s i h =
-    let e : length s / 4 - i ≡ suc (length s / 4 - (i + 1)) = omega arith in
-    ap (λ (n : ℕ). map (λ k. numberAt s (4 * k) 4) (numbers i n)) e
-    ∙ ap (λ (j : ℕ). map (λ k. numberAt s (4 * k) 4) (i ∷ numbers j (length s / 4 - (i + 1)))) (sym (add-one i))
-
-records-end : (s : List ℕ) (i : ℕ) → length s / 4 ≤ i → recordsFrom s i ≡ []
-unfolding recordsFrom numbers
-records-end s i h =
-    let e : length s / 4 - i ≡ 0 = omega arith in
-    ap (λ (n : ℕ). map (λ k. numberAt s (4 * k) 4) (numbers i n)) e
-
--- ---- whether all are rules
-
-pub all-start : (s : List ℕ) → all isRule (recordsFrom s 0) ≡ all isRule (ruleRecords s)
-all-start s = ap (all isRule) (records-start s)
-
-all-next : (s : List ℕ) (i : ℕ) → i < length s / 4
-    → all isRule (recordsFrom s i) ≡ (isRule (numberAt s (4 * i) 4) && all isRule (recordsFrom s (i + 1)))
-unfolding all
-all-next s i h = ap (all isRule) (records-next s i h)
-
-pub all-passed : (s : List ℕ) (i x : ℕ) (r a : Bool) → i < length s / 4 → all isRule (recordsFrom s i) ≡ a → x ≡ numberAt s (4 * i) 4
-    → r ≡ isRule x → r ≡ true
-    → all isRule (recordsFrom s (i + 1)) ≡ a
-all-passed s i x r a h e p q t =
-    let u : isRule (numberAt s (4 * i) 4) ≡ true = cc in
-    let v : (isRule (numberAt s (4 * i) 4) && all isRule (recordsFrom s (i + 1))) ≡ all isRule (recordsFrom s (i + 1)) = ap (λ b. b && all isRule (recordsFrom s (i + 1))) u in
-    sym v ∙ sym (all-next s i h) ∙ e
-
-pub all-failed : (s : List ℕ) (i x : ℕ) (r a : Bool) → i < length s / 4 → all isRule (recordsFrom s i) ≡ a → x ≡ numberAt s (4 * i) 4
-    → r ≡ isRule x → r ≡ false
-    → false ≡ a
-all-failed s i x r a h e p q t =
-    let u : isRule (numberAt s (4 * i) 4) ≡ false = cc in
-    let v : (isRule (numberAt s (4 * i) 4) && all isRule (recordsFrom s (i + 1))) ≡ false = ap (λ b. b && all isRule (recordsFrom s (i + 1))) u in
-    sym v ∙ sym (all-next s i h) ∙ e
-
-pub all-done : (s : List ℕ) (i : ℕ) (a : Bool) → length s / 4 ≤ i → all isRule (recordsFrom s i) ≡ a → true ≡ a
-unfolding all
-all-done s i a h e = sym (ap (all isRule) (records-end s i h)) ∙ e
-
-pub ruleset allLaws = (needs, all-start, all-passed, all-failed, all-done, not-true, not-false)
+pub ruleset allLaws = (needs, rowLaws)
 
 -- ---- the table
 
-unfoldable pub rulesFrom : List ℕ → List ℕ → ℕ → List Rule
-rulesFrom p s i = map (ruleAsRead p) (map ruleOf (recordsFrom s i))
+-- what is read of a record
+abbrev pub ruleRead : List ℕ → ℕ → Rule
+ruleRead p x = ruleAsRead p (ruleIn x)
 
-rules-next : (p s : List ℕ) (i : ℕ) → i < length s / 4
-    → rulesFrom p s i ≡ ruleAsRead p (ruleOf (numberAt s (4 * i) 4)) ∷ rulesFrom p s (i + 1)
-unfolding rulesFrom
-rules-next p s i h = ap (λ l. map (ruleAsRead p) (map ruleOf l)) (records-next s i h)
+-- the rules from the i-th record on
+abbrev pub rulesLeft : List ℕ → List ℕ → ℕ → List Rule
+rulesLeft p s i = map (ruleRead p) (left ruleBytes s 0 (length s / ruleBytes) i)
 
-pub fill-start : (p s table : List ℕ) → rulesIn table 0 ++ rulesFrom p s 0 ≡ rulesAsRead p 16 s
-unfolding rulesIn rulesFrom rulesAsRead
-fill-start p s table = ap (λ l. map (ruleAsRead p) (map ruleOf l)) (records-start s)
+module _ (p s : List ℕ) (sound : all isRule (ruleRecords s) ≡ true) where
+  as-read : rulesAsRead p sheetWidth s ≡ map (ruleRead p) (ruleRecords s)
+  unfolding rulesAsRead
+  as-read = ap (map (ruleAsRead p)) (rules-all s (subst T (sym sound) tt)) ∙ map-map (ruleAsRead p) ruleIn (ruleRecords s)
 
-pub fill-rule : (s : List ℕ) (i x : ℕ) → i < length s / 4 → all isRule (recordsFrom s i) ≡ true → x ≡ numberAt s (4 * i) 4 → isRule x ≡ true
-fill-rule s i x h e p = ap isRule p ∙ and-both (isRule (numberAt s (4 * i) 4)) (all isRule (recordsFrom s (i + 1))) (sym (all-next s i h) ∙ e) .0
+  pub rules-filled : (table : List ℕ) (i : ℕ) → i ≤ length s / ruleBytes → length s / ruleBytes ≤ i
+      → map ruleIn (take i table) ++ rulesLeft p s i ≡ map (ruleRead p) (ruleRecords s)
+      → rulesIn table (length s / ruleBytes) ≡ rulesAsRead p sheetWidth s
+  unfolding rulesIn
+  rules-filled table i most past so-far =
+      fill-ends ruleIn (ruleRead p) ruleBytes s 0 (length s / ruleBytes) table i (map (ruleRead p) (ruleRecords s)) so-far most past
+      ∙ sym as-read
 
-pub fill-later : (s : List ℕ) (i : ℕ) → i < length s / 4 → all isRule (recordsFrom s i) ≡ true → all isRule (recordsFrom s (i + 1)) ≡ true
-fill-later s i h e = and-both (isRule (numberAt s (4 * i) 4)) (all isRule (recordsFrom s (i + 1))) (sym (all-next s i h) ∙ e) .1
+  rules-counted : length s / ruleBytes ≡ length (rulesAsRead p sheetWidth s)
+  rules-counted = sym (ap length as-read ∙ length-map (ruleRecords s) (ruleRead p) ∙ row-length ruleBytes s 0 (length s / ruleBytes))
 
-pub fill-next : (p s before table : List ℕ) (i x v : ℕ) (rules : List Rule) → i < length s / 4 → length s / 4 ≤ length before
-    → length table ≡ length before → rulesIn table i ++ rulesFrom p s i ≡ rules → x ≡ numberAt s (4 * i) 4
-    → ruleOf v ≡ ruleAsRead p (ruleOf x)
-    → rulesIn (set table i v) (i + 1) ++ rulesFrom p s (i + 1) ≡ rules
-unfolding rulesIn
-fill-next p s before table i x v rules h room same e q f =
-    let a : take (i + 1) (set table i v) ≡ take i table ++ (v ∷ []) = ap (λ (j : ℕ). take j (set table i v)) (add-one i) ∙ take-suc-set table i v (omega arith) in
-    let b : rulesFrom p s i ≡ ruleOf v ∷ rulesFrom p s (i + 1) = rules-next p s i h ∙ (cc) in
-    ap (λ l. map ruleOf l ++ rulesFrom p s (i + 1)) a
-    ∙ ap (λ l. l ++ rulesFrom p s (i + 1)) (map-append ruleOf (take i table) (v ∷ []))
-    ∙ append-assoc (map ruleOf (take i table)) (ruleOf v ∷ []) (rulesFrom p s (i + 1))
-    ∙ ap (λ l. map ruleOf (take i table) ++ l) (sym b)
-    ∙ e
+  pub each-rule : (i x : ℕ) → i < length s / ruleBytes → Nth ruleBytes s 0 i x → isRule x ≡ true
+  each-rule i x = each-passes isRule ruleBytes s 0 (length s / ruleBytes) i x sound
 
-pub fill-done : (p s table : List ℕ) (i : ℕ) (rules : List Rule) → length s / 4 ≤ i → i ≤ length s / 4
-    → rulesIn table i ++ rulesFrom p s i ≡ rules
-    → rulesIn table (length s / 4) ≡ rules
-unfolding rulesIn rulesFrom
-fill-done p s table i rules h k e =
-    let j : length s / 4 ≡ i = omega arith in
-    let f : rulesFrom p s i ≡ [] = ap (λ l. map (ruleAsRead p) (map ruleOf l)) (records-end s i h) in
-    ap (rulesIn table) j ∙ sym (append-nil (rulesIn table i)) ∙ ap (λ l. rulesIn table i ++ l) (sym f) ∙ e
-
-pub ruleset fillLaws = (needs, all-start, fill-start, fill-rule, fill-later, fill-next, fill-done)
+pub ruleset fillLaws = (needs, rowLaws, each-rule, rules-filled)
 
 -- ---- the sheet's refusals
 
-pub refused-width : (s : List ℕ) → (length s % 4 ≡ 0 → ⊥) → 1 ≡ numberOf (firstRefusal (ruleRefusals s))
-unfolding numberOf firstRefusal ruleRefusals refuses1
-refused-width s h = rw (ne-eqb (length s % 4) 0 h)
+module _ (s : List ℕ) where
+  pub rules-odd : (length s % ruleBytes ≡ 0 → ⊥) → 1 ≡ numberOf (firstRefusal (ruleRefusals s))
+  unfolding ruleRefusals refuses1 refuses2
+  rules-odd = no-multiple 1 2 ruleBytes mostRuleBytes s (all isRule (ruleRecords s))
 
-pub refused-length : (s : List ℕ) → length s % 4 ≡ 0 → 2048 < length s → 1 ≡ numberOf (firstRefusal (ruleRefusals s))
-unfolding numberOf firstRefusal ruleRefusals refuses1
-refused-length s h k = rw (eq-eqb (length s % 4) 0 h, lt-ltb 2048 (length s) k)
+  module _ (even : length s % ruleBytes ≡ 0) (limit : ℕ) where
+    pub rules-long : limit < length s → leb mostRuleBytes limit ≡ true → 1 ≡ numberOf (firstRefusal (ruleRefusals s))
+    unfolding ruleRefusals refuses1 refuses2
+    rules-long = too-long 1 2 ruleBytes mostRuleBytes s (all isRule (ruleRecords s)) even limit
 
-pub refused-form : (s : List ℕ) (r : Bool) → length s % 4 ≡ 0 → length s ≤ 2048 → r ≡ all isRule (ruleRecords s) → r ≡ false
-    → 2 ≡ numberOf (firstRefusal (ruleRefusals s))
-unfolding numberOf firstRefusal ruleRefusals refuses1 refuses2
-refused-form s r h k e f = rw (eq-eqb (length s % 4) 0 h, le-ltb 2048 (length s) k, sym e ∙ f)
+    module _ (short : length s ≤ limit) (l : leb limit mostRuleBytes ≡ true) (r : Bool) (e : r ≡ all isRule (ruleRecords s)) where
+      pub no-rule : r ≡ false → 2 ≡ numberOf (firstRefusal (ruleRefusals s))
+      unfolding ruleRefusals refuses1 refuses2
+      no-rule f = unsound-record 1 2 ruleBytes mostRuleBytes s (all isRule (ruleRecords s)) even limit short l (sym e ∙ f)
 
-pub not-refused : (s : List ℕ) (r : Bool) → length s % 4 ≡ 0 → length s ≤ 2048 → r ≡ all isRule (ruleRecords s) → r ≡ true
-    → 0 ≡ numberOf (firstRefusal (ruleRefusals s))
-unfolding numberOf firstRefusal ruleRefusals refuses1 refuses2
-not-refused s r h k e f = rw (eq-eqb (length s % 4) 0 h, le-ltb 2048 (length s) k, sym e ∙ f)
+      -- where all are rules the sheet is read
+      module _ (t : r ≡ true) where
+        pub all-hold : all isRule (ruleRecords s) ≡ true
+        all-hold = sym e ∙ t
 
-pub all-hold : (s : List ℕ) (r : Bool) → r ≡ all isRule (ruleRecords s) → r ≡ true → all isRule (ruleRecords s) ≡ true
-all-hold s r e f = sym e ∙ f
+        sound : 0 ≡ numberOf (firstRefusal (ruleRefusals s))
+        unfolding ruleRefusals refuses1 refuses2
+        sound = no-refusal 1 2 ruleBytes mostRuleBytes s (all isRule (ruleRecords s)) even limit short l all-hold
 
-pub ruleset refusalLaws = (needs, refused-width, refused-length, refused-form, not-refused, all-hold, not-true, not-false)
+        pub rules-read : (p table : List ℕ) → rulesIn table (length s / ruleBytes) ≡ rulesAsRead p sheetWidth s
+            → RulesRead p s table 0 (length s / ruleBytes)
+        rules-read p table read =
+            sheet-read (numberOf (firstRefusal (ruleRefusals s))) (rulesAsRead p sheetWidth s) (rulesIn table) mostRules
+            0 (length s / ruleBytes) refl sound read (rules-counted p s all-hold) (omega (arith, leb-true limit mostRuleBytes l))
+
+pub ruleset refusalLaws = (needs, rowLaws, sheet-refused, rules-odd, rules-long, no-rule, all-hold, rules-read)

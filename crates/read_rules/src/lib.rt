@@ -1,19 +1,29 @@
 // Rules: which records are rules, a rule as read, and a sheet's rules read into a table.
+use records::SheetRead;
 use records::bytes::four;
 use records::partners::is_higher;
 use records::partners::lower;
+use records::refused;
+use words::limits::MOST_RULE_BYTES;
+use words::limits::RULE_BYTES;
+use words::rules::left_form;
+use words::rules::left_name;
+use words::rules::right_form;
+use words::rules::right_name;
+use words::rules::rule_kind;
 ghost use mathlib.Core.Path.{_≡_};
-ghost use Prim.Native.Nat.{_/_, _%_, _<_, _≤_};
+ghost use Prim.Native.Nat.{_/_, _<_, _≤_};
 ghost use mathlib.Core.Bool.{true, _&&_, xor};
 ghost use lib.Dec.{eqb, ltb};
 ghost use lib.ListN.{length};
 ghost use Rattle.theory.specs.Lists.{pick, all};
-ghost use Rattle.theory.specs.Refusals.{firstRefusal};
-ghost use Rattle.sheets.specs.Format.{ruleRecords};
-ghost use Rattle.words.specs.Records.{basicOf, ruleOf};
-ghost use Rattle.sheets.specs.Partners.{isHigher, basicAsRead, ruleAsRead};
-ghost use Rattle.sheets.specs.Refusals.{isRule, rulesAsRead, ruleRefusals, numberOf};
+ghost use Rattle.words.specs.Limits.{sheetWidth, nameBound, ruleBound, mostRules, ruleBytes};
+ghost use Rattle.words.specs.Records.{ruleKind, isRule, basicOf, ruleIn};
 ghost use Rattle.words.specs.Words.{rulesIn};
+ghost use Rattle.sheets.specs.Format.{ruleRecords};
+ghost use Rattle.sheets.specs.Partners.{isHigher, basicAsRead, ruleAsRead};
+ghost use Rattle.sheets.specs.Reading.{rulesAsRead};
+ghost use Rattle.read_rules.specs.RuleWords.{RulesRead, described, descriptionBound};
 
 // Kind 1 takes forms 0 to 2 on both sides.
 fn concept_forms(left: u64, right: u64) -> bool
@@ -53,21 +63,19 @@ fn kind_and_forms(kind: u64, left: u64, right: u64) -> bool
 }
 
 // Whether a record of 32 bits is a rule.
-pub fn is_rule(x: u64) -> bool
+fn is_rule(x: u64) -> bool
     ensures { λ r. ⌜ r ≡ isRule x ⌝ }
 {
-    kind_and_forms(x / 0x10000000 % 0x10, x / 0x4000000 % 4, x / 0x1000 % 4)
+    kind_and_forms(rule_kind(x), left_form(x), right_form(x))
 }
 
-// A description of 14 bits, form and number, as read: at a higher role forms 1 and 2 change places, and the number becomes the lower.
-fn description_as_read(d: u64, partners: &[u16]) -> u64
-    requires { ⌜ d < 12288 ⌝ }
-    ensures { λ r. ⌜ (basicOf (r / 4096) (r % 4096) ≡ basicAsRead (now (partners .entry)) (basicOf (d / 4096) (d % 4096))) × (r < 12288) ⌝ }
+// A description as read, in 14 bits: at a higher role forms 1 and 2 change places, and the number becomes the lower.
+fn description_as_read(form: u64, number: u64, partners: &[u16]) -> u64
+    requires { ⌜ (form < 3) × (number < nameBound) ⌝ }
+    ensures { λ r. ⌜ (described r ≡ basicAsRead (now (partners .entry)) (basicOf form number)) × (r < descriptionBound) ⌝ }
 {
-    let form = d / 0x1000;
-    let number = d % 0x1000;
     if form == 0 {
-        return d;
+        return number;
     }
     let low = lower(partners, number);
     if is_higher(partners, number) {
@@ -87,7 +95,7 @@ fn flipped(form: u64, higher: bool) -> u64
 
 // The right form of kind 2 as read: each higher role flips it.
 fn direction_as_read(form: u64, left: u64, right: u64, partners: &[u16]) -> u64
-    requires { ⌜ (form < 2) × (left < 4096) × (right < 4096) ⌝ }
+    requires { ⌜ (form < 2) × (left < nameBound) × (right < nameBound) ⌝ }
     ensures { λ r. ⌜ (eqb r 1 ≡ xor (eqb form 1) (xor (isHigher (now (partners .entry)) left) (isHigher (now (partners .entry)) right)))
         × (r < 2) ⌝ }
 {
@@ -99,31 +107,31 @@ fn direction_as_read(form: u64, left: u64, right: u64, partners: &[u16]) -> u64
 
 // A rule of kind 1 as read: both descriptions as read.
 fn concept_rule_as_read(x: u64, partners: &[u16]) -> u64
-    requires { ⌜ (isRule x ≡ true) × (x / 268435456 ≡ 1) ⌝ }
-    ensures { λ r. ⌜ (ruleOf r ≡ ruleAsRead (now (partners .entry)) (ruleOf x)) × (r < 4294967296) ⌝ }
+    requires { ⌜ (isRule x ≡ true) × (ruleKind x ≡ 1) ⌝ }
+    ensures { λ r. ⌜ (ruleIn r ≡ ruleAsRead (now (partners .entry)) (ruleIn x)) × (r < ruleBound) ⌝ }
 {
-    0x10000000
-        + description_as_read(x / 0x4000 % 0x4000, partners) * 0x4000
-        + description_as_read(x % 0x4000, partners)
+    let left = description_as_read(left_form(x), left_name(x), partners);
+    let right = description_as_read(right_form(x), right_name(x), partners);
+    0x10000000 + left * 0x4000 + right
 }
 
 // A rule of kind 2 as read: both roles as their lower partners, the direction as read.
 fn role_rule_as_read(x: u64, partners: &[u16]) -> u64
-    requires { ⌜ (isRule x ≡ true) × (x < 4294967296) × (x / 268435456 ≡ 1 → ⊥) ⌝ }
-    ensures { λ r. ⌜ (ruleOf r ≡ ruleAsRead (now (partners .entry)) (ruleOf x)) × (r < 4294967296) ⌝ }
+    requires { ⌜ (isRule x ≡ true) × (ruleKind x ≡ 1 → ⊥) ⌝ }
+    ensures { λ r. ⌜ (ruleIn r ≡ ruleAsRead (now (partners .entry)) (ruleIn x)) × (r < ruleBound) ⌝ }
 {
-    let left = x / 0x4000 % 0x1000;
-    let right = x % 0x1000;
-    let direction = direction_as_read(x / 0x1000 % 4, left, right, partners);
+    let left = left_name(x);
+    let right = right_name(x);
+    let direction = direction_as_read(right_form(x), left, right, partners);
     0x20000000 + lower(partners, left) * 0x4000 + direction * 0x1000 + lower(partners, right)
 }
 
 // The rule with reciprocal names read.
-pub fn rule_as_read(x: u64, partners: &[u16]) -> u64
-    requires { ⌜ (x < 4294967296) × (isRule x ≡ true) ⌝ }
-    ensures { λ r. ⌜ (ruleOf r ≡ ruleAsRead (now (partners .entry)) (ruleOf x)) × (r < 4294967296) ⌝ }
+fn rule_as_read(x: u64, partners: &[u16]) -> u64
+    requires { ⌜ isRule x ≡ true ⌝ }
+    ensures { λ r. ⌜ (ruleIn r ≡ ruleAsRead (now (partners .entry)) (ruleIn x)) × (r < ruleBound) ⌝ }
 {
-    if x / 0x10000000 == 1 {
+    if rule_kind(x) == 1 {
         concept_rule_as_read(x, partners)
     } else {
         role_rule_as_read(x, partners)
@@ -131,13 +139,13 @@ pub fn rule_as_read(x: u64, partners: &[u16]) -> u64
 }
 
 // Whether each record of the sheet is a rule.
-pub fn all_rules(s: &[u8]) -> bool
+fn all_rules(s: &[u8]) -> bool
     ensures { λ r. ⌜ r ≡ all isRule (ruleRecords (now (s .entry))) ⌝ }
 {
-    let n = s.len() / 4;
+    let n = s.len() / RULE_BYTES;
     let mut i = 0;
     while i < n {
-        if !is_rule(four(s, 4 * i)) {
+        if !is_rule(four(s, RULE_BYTES * i)) {
             return false;
         }
         i += 1;
@@ -146,55 +154,38 @@ pub fn all_rules(s: &[u8]) -> bool
 }
 
 // The sheet's rules as read, at the front of the table.
-pub fn fill_rules(s: &[u8], partners: &[u16], table: &mut [u64])
-    requires { ⌜ (length (now s) / 4 ≤ length (now table)) × (all isRule (ruleRecords (now s)) ≡ true) ⌝ }
-    ensures { λ _. ⌜ (rulesIn (now (table .exit)) (length (now (s .entry)) / 4) ≡ rulesAsRead (now (partners .entry)) 16 (now (s .entry)))
+fn fill_rules(s: &[u8], partners: &[u16], table: &mut [u64])
+    requires { ⌜ (length (now s) / ruleBytes ≤ length (now table)) × (all isRule (ruleRecords (now s)) ≡ true) ⌝ }
+    ensures { λ _. ⌜ (rulesIn (now (table .exit)) (length (now (s .entry)) / ruleBytes)
+        ≡ rulesAsRead (now (partners .entry)) sheetWidth (now (s .entry)))
         × (length (now (table .exit)) ≡ length (now (table .entry))) ⌝ }
 {
-    let n = s.len() / 4;
+    let n = s.len() / RULE_BYTES;
     let mut i = 0;
     while i < n {
-        table[i] = rule_as_read(four(s, 4 * i), partners);
+        table[i] = rule_as_read(four(s, RULE_BYTES * i), partners);
         i += 1;
     }
 }
 
-pub struct RulesRead {
-    pub number: u32,
-    pub count: usize,
-}
-
 // Reads the rule sheet into the table, or gives the number of its first refusal and the count 0.
-pub fn read_rules(s: &[u8], partners: &[u16], table: &mut [u64]) -> RulesRead
-    requires { ⌜ 512 ≤ length (now table) ⌝ }
-    ensures { λ r. ⌜ (r .number ≡ numberOf (firstRefusal (ruleRefusals (now (s .entry)))))
-        × (length (now (table .exit)) ≡ length (now (table .entry)))
-        × (r .number ≡ 0 →
-        (r .count ≡ length (now (s .entry)) / 4) × (r .count ≤ 512)
-        × (rulesIn (now (table .exit)) (r .count) ≡ rulesAsRead (now (partners .entry)) 16 (now (s .entry))))
-        × ((r .number ≡ 0 → ⊥) → r .count ≡ 0) ⌝ }
+pub fn read_rules(s: &[u8], partners: &[u16], table: &mut [u64]) -> SheetRead
+    requires { ⌜ mostRules ≤ length (now table) ⌝ }
+    ensures kept { λ _. ⌜ length (now (table .exit)) ≡ length (now (table .entry)) ⌝ }
+    ensures rules { λ r. ⌜ RulesRead (now (partners .entry)) (now (s .entry)) (now (table .exit)) (r .number) (r .count) ⌝ }
 {
-    if s.len() % 4 != 0 {
-        return RulesRead {
-            number: 1,
-            count: 0,
-        };
+    if s.len() % RULE_BYTES != 0 {
+        return refused(1);
     }
-    if 2048 < s.len() {
-        return RulesRead {
-            number: 1,
-            count: 0,
-        };
+    if s.len() > MOST_RULE_BYTES {
+        return refused(1);
     }
     if !all_rules(s) {
-        return RulesRead {
-            number: 2,
-            count: 0,
-        };
+        return refused(2);
     }
     fill_rules(s, partners, table);
-    RulesRead {
+    SheetRead {
         number: 0,
-        count: s.len() / 4,
+        count: s.len() / RULE_BYTES,
     }
 }

@@ -14,26 +14,27 @@ use borrow.Author.Tests.{le-leb, lt-leb, leb-true}
 use Rattle.theory.specs.Lists.{pick, all, numbers}
 use Rattle.theory.specs.Laws.Lists.{all-iff}
 use Rattle.theory.specs.Laws.Options.{T-and, T-no, is-true, is-false, pick-true}
-use Rattle.sheets.specs.Format.{questionLength, termCount, atomCount, queryAt, memberCount, memberStart}
-use Rattle.sheets.specs.Laws.QuestionRefusals.{Malformed}
-use Rattle.sheets.specs.Laws.Tests.{lt-or-le, numbers-iff}
+use Rattle.sheets.specs.Format.{questionLength, termCount, atomCount, queryAt, memberCount, memberStart, questionStart}
+use Rattle.sheets.specs.Conditions.{Malformed}
+use Rattle.sheets.specs.Laws.Tests.{eqb-comm, lt-or-le, numbers-iff}
 use Rattle.sheets.specs.Laws.UnionRefusals.{Not6, not6-iff, start-rises}
 use Rattle.read_union.specs.Members.{memberEnd, wholeAndSound, endIfSound}
 use Rattle.sheets.specs.Partners.{queryAsRead}
-use Rattle.sheets.specs.Refusals.{questionSound, refuses4, refuses5, memberSoundAt, memberSound, refuses6}
+use Rattle.sheets.specs.Tests.{questionSound, refuses4, refuses5, memberSoundAt, memberSound, refuses6}
 use Rattle.words.specs.Words.{queryOf}
 use Rattle.words.specs.declared.QueryWords.{QueryWords}
+use Rattle.words.specs.Limits.{sheetWidth, mostTerms, mostAtoms, mostMembers, countBytes, stepBytes, mostQuestionBytes, mostUnionBytes}
 
 -- ---- where members begin and end
 
-pub end-past : (s : List ℕ) (at : ℕ) → length s ≤ at + 4 → at + 4 + 1 ≡ memberEnd s at
-end-past s at h = omega (arith, List·getD-eq-default s 0 {n = at + 4} h)
+pub end-past : (s : List ℕ) (at : ℕ) → length s ≤ at + stepBytes → at + stepBytes + 1 ≡ memberEnd s at
+end-past s at h = omega (arith, List·getD-eq-default s 0 {n = at + stepBytes} h)
 
-pub first-begins : (s : List ℕ) → 2 ≡ memberStart 16 s 0
+pub first-begins : (s : List ℕ) → countBytes ≡ memberStart sheetWidth s 0
 unfolding memberStart
 first-begins s = refl
 
-pub next-start : (s : List ℕ) (j : ℕ) → memberEnd s (memberStart 16 s j) ≡ memberStart 16 s (suc j)
+pub next-start : (s : List ℕ) (j : ℕ) → memberEnd s (memberStart sheetWidth s j) ≡ memberStart sheetWidth s (suc j)
 unfolding memberStart
 next-start s j = refl
 
@@ -44,27 +45,31 @@ pub passed : (a b : Bool) → b ≡ a → b ≡ true → a ≡ true
 passed a b e t = sym e ∙ t
 
 module _ (p s : List ℕ) (arity at : ℕ) where
-  tests : memberSoundAt p 16 arity s at
-      ≡ (questionSound 16 s at
-      && not (refuses4 (queryAsRead p (queryAt 16 s at)))
-      && not (refuses5 (queryAsRead p (queryAt 16 s at)))
+  tests : memberSoundAt p sheetWidth arity s at
+      ≡ (questionSound sheetWidth s at
+      && not (refuses4 (queryAsRead p (queryAt sheetWidth s at)))
+      && not (refuses5 (queryAsRead p (queryAt sheetWidth s at)))
       && eqb (termCount s at) arity)
   unfolding memberSoundAt
   tests = refl
 
-  pub question-unsound : (b : Bool) → b ≡ questionSound 16 s at → b ≡ false → false ≡ memberSoundAt p 16 arity s at
+  pub question-unsound : (b : Bool) → b ≡ questionSound sheetWidth s at → b ≡ false → false ≡ memberSoundAt p sheetWidth arity s at
   question-unsound b e f = rw (tests, ← e, f)
 
-  module _ (q : QueryWords) (b : Bool) (e : b ≡ questionSound 16 s at) (t : b ≡ true) (r : queryOf q ≡ queryAsRead p (queryAt 16 s at)) where
-    pub answer-missing : (m : Bool) → m ≡ refuses4 (queryOf q) → m ≡ true → false ≡ memberSoundAt p 16 arity s at
+  module _ (q : QueryWords) (b : Bool) (e : b ≡ questionSound sheetWidth s at) (t : b ≡ true)
+      (r : queryOf q ≡ queryAsRead p (queryAt sheetWidth s at)) where
+    pub answer-missing : (m : Bool) → m ≡ refuses4 (queryOf q) → m ≡ true → false ≡ memberSoundAt p sheetWidth arity s at
     answer-missing m f u = rw (tests, ← e, t, ← r, ← f, u)
 
     module _ (m : Bool) (f : m ≡ refuses4 (queryOf q)) (u : m ≡ false) (k : Bool) (d : k ≡ refuses5 (queryOf q)) where
-      pub atom-repeated : k ≡ true → false ≡ memberSoundAt p 16 arity s at
+      pub atom-repeated : k ≡ true → false ≡ memberSoundAt p sheetWidth arity s at
       atom-repeated v = rw (tests, ← e, t, ← r, ← f, u, ← d, v)
 
-      pub terms-compared : k ≡ false → q .terms ≡ termCount s at → eqb (q .terms) arity ≡ memberSoundAt p 16 arity s at
+      pub terms-compared : k ≡ false → q .terms ≡ termCount s at → eqb (q .terms) arity ≡ memberSoundAt p sheetWidth arity s at
       terms-compared v w = rw (tests, ← e, t, ← r, ← f, u, ← d, v, w)
+
+      pub arity-compared : k ≡ false → q .terms ≡ termCount s at → eqb arity (q .terms) ≡ memberSoundAt p sheetWidth arity s at
+      arity-compared v w = eqb-comm arity (q .terms) ∙ terms-compared v w
 
 -- ---- a member's end, if it is whole and sound
 
@@ -72,7 +77,7 @@ pub end-beyond : (p s : List ℕ) (arity at end : ℕ) → end ≡ memberEnd s a
 end-beyond p s arity at end e h = rw (lt-leb (memberEnd s at) (length s) (omega arith))
 
 module _ (p s : List ℕ) (arity at end : ℕ) (e : end ≡ memberEnd s at) (h : end ≤ length s)
-    (b : Bool) (d : b ≡ memberSoundAt p 16 arity s (at + 4))
+    (b : Bool) (d : b ≡ memberSoundAt p sheetWidth arity s (at + stepBytes))
   where
     pub end-unsound : b ≡ false → 0 ≡ endIfSound p arity s at
     end-unsound f = rw (le-leb (memberEnd s at) (length s) (omega arith), ← d, f)
@@ -84,7 +89,7 @@ module _ (p s : List ℕ) (arity at end : ℕ) (e : end ≡ memberEnd s at) (h :
 
 -- the first n members are sound
 abbrev pub SoundBelow : List ℕ → ℕ → List ℕ → ℕ → Type 0
-SoundBelow p arity s n = (i : ℕ) → i < n → T (memberSound p 16 arity s i)
+SoundBelow p arity s n = (i : ℕ) → i < n → T (memberSound p sheetWidth arity s i)
 
 pub none-below : (p s : List ℕ) (arity : ℕ) → SoundBelow p arity s 0
 none-below p s arity i h = absurd (omega arith)
@@ -98,70 +103,79 @@ not-picked : (b : Bool) (x n : ℕ) → n ≡ pick b x 0 → n ≡ 0 → 0 < x �
 not-picked true x n e z h = absurd (omega arith)
 not-picked false x n e z h = λ t. t
 
-module _ (p s : List ℕ) (arity count at j end : ℕ) (begins : at ≡ memberStart 16 s j) (e : end ≡ endIfSound p arity s at) where
-  ends-here : memberEnd s at ≡ memberStart 16 s (suc j)
+module _ (p s : List ℕ) (arity count at j end : ℕ) (begins : at ≡ memberStart sheetWidth s j) (e : end ≡ endIfSound p arity s at) where
+  ends-here : memberEnd s at ≡ memberStart sheetWidth s (suc j)
   ends-here = ap (λ a. memberEnd s a) begins ∙ next-start s j
 
-  sound-here : memberSoundAt p 16 arity s (at + 4) ≡ memberSound p 16 arity s j
+  sound-here : memberSoundAt p sheetWidth arity s (at + stepBytes) ≡ memberSound p sheetWidth arity s j
   unfolding memberSound
-  sound-here = ap (λ a. memberSoundAt p 16 arity s (a + 4)) begins
+  sound-here = ap (λ a. memberSoundAt p sheetWidth arity s (a + stepBytes)) begins
 
-  pub member-fails : end ≡ 0 → j < count → false ≡ (eqb (memberStart 16 s count) (length s) && all (memberSound p 16 arity s) (numbers 0 count))
+  pub member-fails : end ≡ 0 → j < count
+      → false ≡ (eqb (memberStart sheetWidth s count) (length s) && all (memberSound p sheetWidth arity s) (numbers 0 count))
   member-fails z h = sym (is-false _ (λ t.
-      let a = T-and (eqb (memberStart 16 s count) (length s)) (all (memberSound p 16 arity s) (numbers 0 count)) .0 t in
-      let ends-there : memberStart 16 s count ≡ length s = eqb→eq (memberStart 16 s count) (length s) (a .0) in
-      let whole = le→leb (memberEnd s at) (length s) (omega (arith, ends-here, start-rises 16 s (suc j) count h)) in
-      let sound = all-iff (memberSound p 16 arity s) (numbers 0 count) .0 (a .1) j (numbers-iff count j .1 h) in
+      let a = T-and (eqb (memberStart sheetWidth s count) (length s)) (all (memberSound p sheetWidth arity s) (numbers 0 count)) .0 t in
+      let ends-there : memberStart sheetWidth s count ≡ length s = eqb→eq (memberStart sheetWidth s count) (length s) (a .0) in
+      let whole = le→leb (memberEnd s at) (length s) (omega (arith, ends-here, start-rises sheetWidth s (suc j) count h)) in
+      let sound = all-iff (memberSound p sheetWidth arity s) (numbers 0 count) .0 (a .1) j (numbers-iff count j .1 h) in
       not-picked (wholeAndSound p arity s at) (memberEnd s at) end e z (omega arith)
-      (T-and (leb (memberEnd s at) (length s)) (memberSoundAt p 16 arity s (at + 4)) .1 (whole, subst T (sym sound-here) sound))))
+      (T-and (leb (memberEnd s at) (length s)) (memberSoundAt p sheetWidth arity s (at + stepBytes)) .1
+      (whole, subst T (sym sound-here) sound))))
 
   module _ (more : end ≡ 0 → ⊥) where
     passes : T (wholeAndSound p arity s at)
     passes = picked (wholeAndSound p arity s at) (memberEnd s at) end e more
 
-    parts : T (leb (memberEnd s at) (length s)) × T (memberSoundAt p 16 arity s (at + 4))
-    parts = T-and (leb (memberEnd s at) (length s)) (memberSoundAt p 16 arity s (at + 4)) .0 passes
+    parts : T (leb (memberEnd s at) (length s)) × T (memberSoundAt p sheetWidth arity s (at + stepBytes))
+    parts = T-and (leb (memberEnd s at) (length s)) (memberSoundAt p sheetWidth arity s (at + stepBytes)) .0 passes
 
     ends : end ≡ memberEnd s at
     ends = e ∙ pick-true (wholeAndSound p arity s at) (memberEnd s at) 0 passes
 
-    pub next-begins : end ≡ memberStart 16 s (j + 1)
+    pub next-begins : end ≡ memberStart sheetWidth s (j + 1)
     next-begins = rw (add-one j) (ends ∙ ends-here)
 
     pub next-within : end ≤ length s
     next-within = rw ends (leb→le (memberEnd s at) (length s) (parts .0))
 
     pub next-sound : SoundBelow p arity s j → SoundBelow p arity s (j + 1)
-    next-sound below = below-more (λ i. T (memberSound p 16 arity s i)) j below (subst T sound-here (parts .1))
+    next-sound below = below-more (λ i. T (memberSound p sheetWidth arity s i)) j below (subst T sound-here (parts .1))
 
 and-true : (a b : Bool) → T b → a ≡ a && b
 and-true true true t = refl
 and-true true false t = absurd t
 and-true false b t = refl
 
-pub all-sound : (p s : List ℕ) (arity count at j : ℕ) → at ≡ memberStart 16 s j → SoundBelow p arity s j → j ≤ count → count ≤ j
-    → eqb at (length s) ≡ (eqb (memberStart 16 s count) (length s) && all (memberSound p 16 arity s) (numbers 0 count))
+pub all-sound : (p s : List ℕ) (arity count at j : ℕ) → at ≡ memberStart sheetWidth s j → SoundBelow p arity s j → j ≤ count → count ≤ j
+    → eqb at (length s) ≡ (eqb (memberStart sheetWidth s count) (length s) && all (memberSound p sheetWidth arity s) (numbers 0 count))
 all-sound p s arity count at j e below h k =
     let d : j ≡ count = omega arith in
-    ap (λ a. eqb a (length s)) (e ∙ ap (memberStart 16 s) d)
-    ∙ and-true (eqb (memberStart 16 s count) (length s)) (all (memberSound p 16 arity s) (numbers 0 count))
-    (all-iff (memberSound p 16 arity s) (numbers 0 count) .1 (λ i m. below i (let l : i < count = numbers-iff count i .0 m in omega arith)))
+    ap (λ a. eqb a (length s)) (e ∙ ap (memberStart sheetWidth s) d)
+    ∙ and-true (eqb (memberStart sheetWidth s count) (length s)) (all (memberSound p sheetWidth arity s) (numbers 0 count))
+    (all-iff (memberSound p sheetWidth arity s) (numbers 0 count) .1
+    (λ i m. below i (let l : i < count = numbers-iff count i .0 m in omega arith)))
+
+pub all-sound-length : (p s : List ℕ) (arity count at j : ℕ) → at ≡ memberStart sheetWidth s j → SoundBelow p arity s j
+    → j ≤ count → count ≤ j
+    → eqb (length s) at ≡ (eqb (memberStart sheetWidth s count) (length s) && all (memberSound p sheetWidth arity s) (numbers 0 count))
+all-sound-length p s arity count at j e below h k = eqb-comm (length s) at ∙ all-sound p s arity count at j e below h k
 
 -- ---- refusal 6
 
 -- a question with counts in range is at most 61 bytes long, so a member at most 65
-question-bound : (s : List ℕ) (at : ℕ) → ¬ Malformed 16 s at → questionLength 16 s at ≤ 61
+question-bound : (s : List ℕ) (at : ℕ) → ¬ Malformed sheetWidth s at → questionLength sheetWidth s at ≤ mostQuestionBytes sheetWidth
 question-bound s at ok =
-    elim (lt-or-le 4 (termCount s at)) [
+    elim (lt-or-le mostTerms (termCount s at)) [
       | inl l ↦ absurd (ok (inl (inl l)))
-      | inr few ↦ elim (lt-or-le 8 (atomCount s at)) [ inl l ↦ absurd (ok (inl (inr (inr l)))) | inr small ↦ omega arith ]
+      | inr few ↦ elim (lt-or-le mostAtoms (atomCount s at)) [ inl l ↦ absurd (ok (inl (inr (inr l)))) | inr small ↦ omega arith ]
     ]
 
-start-bound : (s : List ℕ) (n : ℕ) → ((j : ℕ) → j < n → ¬ Malformed 16 s (memberStart 16 s j + 4)) → memberStart 16 s n ≤ 2 + 65 * n
+start-bound : (s : List ℕ) (n : ℕ) → ((j : ℕ) → j < n → ¬ Malformed sheetWidth s (questionStart sheetWidth s j))
+    → memberStart sheetWidth s n ≤ countBytes + (stepBytes + mostQuestionBytes sheetWidth) * n
 start-bound s zero ok = omega (arith, first-begins s)
 start-bound s (suc n) ok =
     let before = start-bound s n (λ j h. ok j (omega arith)) in
-    omega (arith, next-start s n, question-bound s (memberStart 16 s n + 4) (ok n (omega arith)))
+    omega (arith, next-start s n, question-bound s (questionStart sheetWidth s n) (ok n (omega arith)))
 
 not-or : (a b c : Bool) → not (not a || not b || not c) ≡ a && b && c
 not-or true true true = refl
@@ -170,40 +184,43 @@ not-or true false c = refl
 not-or false b c = refl
 
 module _ (p s : List ℕ) (arity : ℕ) where
-  pub accepted : not (refuses6 p 16 arity s) ≡ true → Not6 p 16 arity s
-  accepted e = not6-iff p 16 arity s .0 (T-no (refuses6 p 16 arity s) .0 (subst T (sym e) tt))
+  pub accepted : not (refuses6 p sheetWidth arity s) ≡ true → Not6 p sheetWidth arity s
+  accepted e = not6-iff p sheetWidth arity s .0 (T-no (refuses6 p sheetWidth arity s) .0 (subst T (sym e) tt))
 
-  pub at-least : not (refuses6 p 16 arity s) ≡ true → 7 ≤ length s
-  at-least e = let a = accepted e in omega (arith, first-begins s, next-start s 0, start-rises 16 s 1 (memberCount s) (a .0))
+  pub at-least : not (refuses6 p sheetWidth arity s) ≡ true → 7 ≤ length s
+  at-least e = let a = accepted e in omega (arith, first-begins s, next-start s 0, start-rises sheetWidth s 1 (memberCount s) (a .0))
 
   -- 33,282 is 2 + 512 * 65
-  pub at-most : not (refuses6 p 16 arity s) ≡ true → length s ≤ 33282
+  pub at-most : not (refuses6 p sheetWidth arity s) ≡ true → length s ≤ mostUnionBytes sheetWidth
   at-most e = let a = accepted e in omega (arith, start-bound s (memberCount s) (λ j h. a .3 j h .0))
 
-  pub refused : (not (refuses6 p 16 arity s) ≡ true → ⊥) → false ≡ not (refuses6 p 16 arity s)
-  refused f = sym (is-false (not (refuses6 p 16 arity s)) (λ t. f (is-true (not (refuses6 p 16 arity s)) t)))
+  pub refused : (not (refuses6 p sheetWidth arity s) ≡ true → ⊥) → false ≡ not (refuses6 p sheetWidth arity s)
+  refused f = sym (is-false (not (refuses6 p sheetWidth arity s)) (λ t. f (is-true (not (refuses6 p sheetWidth arity s)) t)))
 
-  pub too-short : length s < 2 → false ≡ not (refuses6 p 16 arity s)
+  pub too-short : length s < countBytes → false ≡ not (refuses6 p sheetWidth arity s)
   too-short h = refused (λ e. let l : 7 ≤ length s = at-least e in omega arith)
 
-  pub too-long : 33282 < length s → false ≡ not (refuses6 p 16 arity s)
-  too-long h = refused (λ e. let l : length s ≤ 33282 = at-most e in omega arith)
+  pub too-long : mostUnionBytes sheetWidth < length s → false ≡ not (refuses6 p sheetWidth arity s)
+  too-long h = refused (λ e. let l : length s ≤ mostUnionBytes sheetWidth = at-most e in omega arith)
 
   -- the count, in the range that the code names or out of it
   module _ (count : ℕ) (d : count ≡ memberCount s) where
-    pub too-few : count < 1 → false ≡ not (refuses6 p 16 arity s)
+    pub too-few : count < 1 → false ≡ not (refuses6 p sheetWidth arity s)
     too-few h = refused (λ e. let a = accepted e in omega arith)
 
-    pub too-many : (n : ℕ) → n ≤ count → leb 513 n ≡ true → false ≡ not (refuses6 p 16 arity s)
-    too-many n h k = refused (λ e. let a = accepted e in omega (arith, leb-true 513 n k))
+    pub too-many : (n : ℕ) → n ≤ count → leb (mostMembers + 1) n ≡ true → false ≡ not (refuses6 p sheetWidth arity s)
+    too-many n h k = refused (λ e. let a = accepted e in omega (arith, leb-true (mostMembers + 1) n k))
 
-    pub members-tell : 1 ≤ count → (n : ℕ) → count < n → leb n 513 ≡ true → (r : Bool)
-        → r ≡ (eqb (memberStart 16 s count) (length s) && all (memberSound p 16 arity s) (numbers 0 count)) → r ≡ not (refuses6 p 16 arity s)
+    pub members-tell : 1 ≤ count → (n : ℕ) → count < n → leb n (mostMembers + 1) ≡ true → (r : Bool)
+        → r ≡ (eqb (memberStart sheetWidth s count) (length s) && all (memberSound p sheetWidth arity s) (numbers 0 count))
+        → r ≡ not (refuses6 p sheetWidth arity s)
     unfolding refuses6
     members-tell h n k l r e =
-        let whole : Bool = eqb (memberStart 16 s (memberCount s)) (length s) in
-        let sound : Bool = all (memberSound p 16 arity s) (numbers 0 (memberCount s)) in
-        e ∙ sym (not-or (leb 1 (memberCount s) && leb (memberCount s) 512) whole sound ∙ rw (← d, le-leb 1 count h, le-leb count 512 (omega (arith, leb-true n 513 l))))
+        let whole : Bool = eqb (memberStart sheetWidth s (memberCount s)) (length s) in
+        let sound : Bool = all (memberSound p sheetWidth arity s) (numbers 0 (memberCount s)) in
+        e
+        ∙ sym (not-or (leb 1 (memberCount s) && leb (memberCount s) mostMembers) whole sound
+        ∙ rw (← d, le-leb 1 count h, le-leb count mostMembers (omega (arith, leb-true n (mostMembers + 1) l))))
 
 pub ruleset laws = (
   needs,
@@ -214,6 +231,7 @@ pub ruleset laws = (
   answer-missing,
   atom-repeated,
   terms-compared,
+  arity-compared,
   end-beyond,
   end-unsound,
   end-sound,
@@ -223,6 +241,7 @@ pub ruleset laws = (
   next-within,
   next-sound,
   all-sound,
+  all-sound-length,
   too-short,
   too-long,
   too-few,

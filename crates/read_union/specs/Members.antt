@@ -1,40 +1,73 @@
--- What the reader of a union hands from one function to the next: a member's end, and a member's row of words.
+-- What reading a union gives, what showing a member gives, and what the reader hands from one function to the next: a member's end, and a
+-- member's row of words.
 use mathlib.Core.Path.{_≡_}
 use Prim.Native.Nat.{ℕ, _+_, _*_, _≤_, _<_}
 use mathlib.Core.Bool.{Bool, true, _&&_}
 use mathlib.Core.List.{List, _++_}
 use lib.Dec.{leb}
-use lib.ListN.{length, getD, drop}
+use lib.ListN.{length, getD, take, drop}
 use Rattle.theory.specs.Lists.{pick}
 use Rattle.theory.specs.Syntax.{Member}
-use Rattle.sheets.specs.Format.{questionLength, memberStart}
-use Rattle.sheets.specs.Refusals.{questionSound, memberSoundAt}
-use Rattle.words.specs.Words.{memberOf, stride}
+use Rattle.words.specs.Limits.{sheetWidth, wordTermBound, mostTerms, mostAtoms, mostMembers, stepBytes}
+use Rattle.words.specs.Words.{memberOf, unionIn, stride}
+use Rattle.sheets.specs.Format.{questionLength, memberStart, questionStart}
+use Rattle.sheets.specs.Reading.{unionAsRead}
+use Rattle.sheets.specs.Showing.{memberPart, partStart}
+use Rattle.sheets.specs.Tests.{questionSound, memberSoundAt, refuses6}
+use Rattle.records.specs.Reading.{ReadInto}
+
+-- ---- the pledges
+
+-- a row's counts are in range, and its answer words are terms
+pub record NarrowRow (row : List ℕ) : Type 0 where
+  pub few-terms : getD row 1 0 ≤ mostTerms
+  pub few-atoms : getD row 6 0 ≤ mostAtoms
+  pub answer-words : (k : ℕ) → k < mostTerms → getD row (2 + k) 0 < wordTermBound
+
+-- the first n rows of a table are narrow
+pub record NarrowRows (table : List ℕ) (n : ℕ) : Type 0 where
+  pub each : (j : ℕ) → j < n → NarrowRow (drop (stride * j) table)
+
+-- for a question with so many answer terms
+pub record UnionRead (partners s : List ℕ) (arity : ℕ) (table : List ℕ) (number count : ℕ) : Type 0 where
+  -- the number is 6 where that applies; where it doesn't, the table's first `count` rows are the sheet's members as read, and the count is
+  -- their number
+  pub sheet : ReadInto
+      (pick (refuses6 partners sheetWidth arity s) 6 0) (unionAsRead partners sheetWidth s) (unionIn table) mostMembers number count
+  -- which is not 0
+  pub some : number ≡ 0 → 1 ≤ count
+  pub narrow : NarrowRows table count
+
+-- the place of the part that holds member m's question
+pub record Placed (partners s : List ℕ) (m start size : ℕ) : Type 0 where
+  -- its first byte, 0 for an empty part, and its length
+  pub start-is : start ≡ partStart partners sheetWidth s m
+  pub size-is : size ≡ length (memberPart partners sheetWidth s m)
+  -- it lies within the sheet, and is that part
+  pub within : start + size ≤ length s
+  pub part : take size (drop start s) ≡ memberPart partners sheetWidth s m
+
+-- ---- between the reader's functions
 
 -- the end of the member that begins at byte `at`
 abbrev pub memberEnd : List ℕ → ℕ → ℕ
-memberEnd s at = at + 4 + questionLength 16 s (at + 4)
+memberEnd s at = at + stepBytes + questionLength sheetWidth s (at + stepBytes)
 
 -- that member ends within the sheet and is sound
 abbrev pub wholeAndSound : List ℕ → ℕ → List ℕ → ℕ → Bool
-wholeAndSound partners arity s at = leb (memberEnd s at) (length s) && memberSoundAt partners 16 arity s (at + 4)
+wholeAndSound partners arity s at = leb (memberEnd s at) (length s) && memberSoundAt partners sheetWidth arity s (at + stepBytes)
 
 -- its end, if it is whole and sound, and else 0
 abbrev pub endIfSound : List ℕ → ℕ → List ℕ → ℕ → ℕ
 endIfSound partners arity s at = pick (wholeAndSound partners arity s at) (memberEnd s at) 0
 
 -- the first n members stand within the sheet, and each has a sound question
-abbrev pub Readable : List ℕ → ℕ → Type 0
-Readable s n = (memberStart 16 s n ≤ length s) × ((j : ℕ) → j < n → questionSound 16 s (memberStart 16 s j + 4) ≡ true)
-
--- a row's counts are in range, and its answer words are terms
-abbrev pub NarrowRow : List ℕ → Type 0
-NarrowRow row = (getD row 1 0 ≤ 4) × (getD row 6 0 ≤ 8) × ((k : ℕ) → k < 4 → getD row (2 + k) 0 < 33554432)
+pub record Readable (s : List ℕ) (n : ℕ) : Type 0 where
+  pub within : memberStart sheetWidth s n ≤ length s
+  pub each : (j : ℕ) → j < n → questionSound sheetWidth s (questionStart sheetWidth s j) ≡ true
 
 -- a row is a member's, whatever stands after it in a table
-abbrev pub RowOf : Member → List ℕ → Type 0
-RowOf m row = (length row ≡ stride) × ((rest : List ℕ) → memberOf (row ++ rest) ≡ m) × NarrowRow row
-
--- the first n rows of a table are narrow
-abbrev pub NarrowRows : List ℕ → ℕ → Type 0
-NarrowRows table n = (j : ℕ) → j < n → NarrowRow (drop (stride * j) table)
+pub record RowOf (m : Member) (row : List ℕ) : Type 0 where
+  pub full : length row ≡ stride
+  pub holds : (rest : List ℕ) → memberOf (row ++ rest) ≡ m
+  pub narrow : NarrowRow row

@@ -15,7 +15,8 @@ pub number-two : (s : List ℕ) (at a b : ℕ) → a ≡ getD s at 0 → b ≡ g
 unfolding numberAt
 number-two s at a b p q = omega (arith, same-byte s (at + 0) at (omega arith))
 
-pub number-three : (s : List ℕ) (at a b c : ℕ) → a ≡ getD s at 0 → b ≡ getD s (at + 1) 0 → c ≡ getD s (at + 2) 0 → a * 65536 + b * 256 + c ≡ numberAt s at 3
+pub number-three : (s : List ℕ) (at a b c : ℕ) → a ≡ getD s at 0 → b ≡ getD s (at + 1) 0 → c ≡ getD s (at + 2) 0
+    → a * 65536 + b * 256 + c ≡ numberAt s at 3
 unfolding numberAt
 number-three s at a b c p q r = omega (arith, same-byte s (at + 0) at (omega arith))
 

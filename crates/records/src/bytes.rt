@@ -3,6 +3,7 @@ ghost use mathlib.Core.Path.{_≡_};
 ghost use Prim.Native.Nat.{_+_, _*_, _≤_, _<_};
 ghost use lib.ListN.{length};
 ghost use Rattle.sheets.specs.Bits.{numberAt};
+ghost use Rattle.words.specs.Limits.{sheetRecordBound, ruleBound};
 
 pub fn wide(x: u8) -> u64
     ensures { λ r. ⌜ (r ≡ x) × (r < 256) ⌝ }
@@ -29,7 +30,7 @@ pub fn three(s: &[u8], at: usize) -> u64
 // The number in four bytes of s.
 pub fn four(s: &[u8], at: usize) -> u64
     requires { ⌜ at + 4 ≤ length (now s) ⌝ }
-    ensures { λ r. ⌜ (r ≡ numberAt (now (s .entry)) at 4) × (r < 4294967296) ⌝ }
+    ensures { λ r. ⌜ (r ≡ numberAt (now (s .entry)) at 4) × (r < ruleBound) ⌝ }
 {
     two(s, at) * 0x10000 + two(s, at + 2)
 }
@@ -37,7 +38,7 @@ pub fn four(s: &[u8], at: usize) -> u64
 // The number in six bytes of s.
 pub fn six(s: &[u8], at: usize) -> u64
     requires { ⌜ at + 6 ≤ length (now s) ⌝ }
-    ensures { λ r. ⌜ (r ≡ numberAt (now (s .entry)) at 6) × (r < 281474976710656) ⌝ }
+    ensures { λ r. ⌜ (r ≡ numberAt (now (s .entry)) at 6) × (r < sheetRecordBound) ⌝ }
 {
     four(s, at) * 0x10000 + two(s, at + 4)
 }

@@ -1,30 +1,40 @@
-// The sheet's records of 17 and 48 bits, terms and atoms: which are sound, and their words as read.
+// Terms and atoms of a sheet: which are sound, and their words as read.
+use crate::fields::atom_first;
+use crate::fields::atom_kind;
+use crate::fields::atom_name;
+use crate::fields::atom_second;
+use crate::fields::atom_zero;
+use crate::fields::term_kind;
+use crate::fields::term_number;
 use crate::partners::is_higher;
 use crate::partners::lower;
 use words::concept_word;
+use words::limits::SHEET_TERM_BOUND;
+use words::limits::VARIABLE_BOUND;
 use words::role_word;
 ghost use mathlib.Core.Path.{_≡_};
-ghost use mathlib.Core.Bool.{true};
 ghost use Prim.Native.Nat.{_+_, _*_, _<_};
 ghost use lib.Dec.{eqb};
 ghost use Rattle.theory.specs.Lists.{pick};
 ghost use Rattle.theory.specs.Syntax.{role};
-ghost use Rattle.words.specs.Records.{field, termOf, atomOf};
+ghost use Rattle.words.specs.Records.{termOf, atomKind, atomSecond, atomOf};
+ghost use Rattle.words.specs.Limits.{sheetWidth, nameBound, sheetTermBound, wordTermBound};
+ghost use Rattle.words.specs.Words.{wordTerm, wordAtom};
 ghost use Rattle.sheets.specs.Partners.{atomAsRead};
-ghost use Rattle.sheets.specs.Refusals.{termSound, answerSound, atomSound};
+ghost use Rattle.sheets.specs.Tests.{termSound, answerSound, atomSound};
 
 // The word of a term record.
 pub fn widen_term(t: u64) -> u64
-    requires { ⌜ t < 131072 ⌝ }
-    ensures { λ r. ⌜ (termOf 24 r ≡ termOf 16 t) × (r < 33554432) ⌝ }
+    requires { ⌜ t < sheetTermBound ⌝ }
+    ensures { λ r. ⌜ (wordTerm r ≡ termOf sheetWidth t) × (r < wordTermBound) ⌝ }
 {
-    t / 0x10000 * 0x1000000 + t % 0x10000
+    term_kind(t) * 0x1000000 + term_number(t)
 }
 
 // The word of the role atom with this number and these terms, as read.
 fn role_as_read(number: u64, t: u64, u: u64, partners: &[u16]) -> u64
-    requires { ⌜ (number < 4096) × (t < 33554432) × (u < 33554432) ⌝ }
-    ensures { λ r. ⌜ atomOf 24 r ≡ atomAsRead (now (partners .entry)) (role number (termOf 24 t) (termOf 24 u)) ⌝ }
+    requires { ⌜ (number < nameBound) × (t < wordTermBound) × (u < wordTermBound) ⌝ }
+    ensures { λ r. ⌜ wordAtom r ≡ atomAsRead (now (partners .entry)) (role number (wordTerm t) (wordTerm u)) ⌝ }
 {
     let low = lower(partners, number);
     if is_higher(partners, number) {
@@ -36,24 +46,23 @@ fn role_as_read(number: u64, t: u64, u: u64, partners: &[u16]) -> u64
 
 // The word of an atom record, as read.
 pub fn atom_word(x: u64, partners: &[u16]) -> u64
-    requires { ⌜ x < 281474976710656 ⌝ }
-    ensures { λ r. ⌜ atomOf 24 r ≡ atomAsRead (now (partners .entry)) (atomOf 16 x) ⌝ }
+    ensures { λ r. ⌜ wordAtom r ≡ atomAsRead (now (partners .entry)) (atomOf sheetWidth x) ⌝ }
 {
-    let number = x / 0x400000000 % 0x1000;
-    let t = widen_term(x / 0x20000 % 0x20000);
-    if x / 0x800000000000 % 2 == 0 {
+    let number = atom_name(x);
+    let t = widen_term(atom_first(x));
+    if atom_kind(x) == 0 {
         concept_word(number, t)
     } else {
-        role_as_read(number, t, widen_term(x % 0x20000), partners)
+        role_as_read(number, t, widen_term(atom_second(x)), partners)
     }
 }
 
 // Whether a term record is an object or a variable up to 31.
-pub fn term_sound(t: u64) -> bool
-    ensures { λ r. ⌜ r ≡ termSound 16 t ⌝ }
+fn term_sound(t: u64) -> bool
+    ensures { λ r. ⌜ r ≡ termSound sheetWidth t ⌝ }
 {
-    if t / 0x10000 == 0 {
-        t % 0x10000 < 32
+    if term_kind(t) == 0 {
+        term_number(t) < VARIABLE_BOUND
     } else {
         true
     }
@@ -61,29 +70,34 @@ pub fn term_sound(t: u64) -> bool
 
 // Whether an answer record has its zero bits and a sound term.
 pub fn answer_sound(x: u64) -> bool
-    ensures { λ r. ⌜ r ≡ answerSound 16 x ⌝ }
+    ensures { λ r. ⌜ r ≡ answerSound sheetWidth x ⌝ }
 {
-    if x < 0x20000 { term_sound(x) } else { false }
+    if x < SHEET_TERM_BOUND {
+        term_sound(x)
+    } else {
+        false
+    }
 }
 
 // Whether an atom record's second place is zero for a concept, a sound term for a role.
 fn second_sound(x: u64) -> bool
-    ensures { λ r. ⌜ r ≡ pick (eqb (field 47 1 x) 0) (eqb (field 0 17 x) 0) (termSound 16 (field 0 17 x)) ⌝ }
+    ensures { λ r. ⌜ r ≡ pick (eqb (atomKind sheetWidth x) 0)
+        (eqb (atomSecond sheetWidth x) 0) (termSound sheetWidth (atomSecond sheetWidth x)) ⌝ }
 {
-    if x / 0x800000000000 % 2 == 0 {
-        x % 0x20000 == 0
+    let t = atom_second(x);
+    if atom_kind(x) == 0 {
+        t == 0
     } else {
-        term_sound(x % 0x20000)
+        term_sound(t)
     }
 }
 
 // Whether an atom record has its zero bits and sound terms.
 pub fn atom_sound(x: u64) -> bool
-    requires { ⌜ x < 281474976710656 ⌝ }
-    ensures { λ r. ⌜ r ≡ atomSound 16 x ⌝ }
+    ensures { λ r. ⌜ r ≡ atomSound sheetWidth x ⌝ }
 {
-    if x / 0x400000000000 % 2 == 0 {
-        if term_sound(x / 0x20000 % 0x20000) {
+    if atom_zero(x) == 0 {
+        if term_sound(atom_first(x)) {
             second_sound(x)
         } else {
             false

@@ -12,42 +12,24 @@ use lib.ListN.{getD, set, replicate, getD-replicate}
 use lib.Seq.{getD-set-same, getD-set-other}
 use borrow.Author.Needs.{needs}
 use borrow.Author.Tests.{eqb-true, eqb-false, not-true, not-false}
-use Rattle.theory.specs.Lists.{_∈_, any, all, pick, pairwise}
-use Rattle.theory.specs.Syntax.{Term, var, const, Atom, Query, terms, mapAtom, rename, onAtoms, sameTerm}
-use Rattle.theory.specs.Renaming.{Alike, alike}
+use Rattle.theory.specs.Lists.{_∈_, any, pick}
+use Rattle.theory.specs.Syntax.{Term, var, const, Query, terms, rename, sameTerm}
+use Rattle.theory.specs.Renaming.{Alike, promising, alike}
 use Rattle.theory.specs.Laws.Options.{T-and, T-or, T-no, T-eqb, is-true, is-false, same-test}
-use Rattle.theory.specs.Laws.Lists.{any-same, all-any-iff, pairwise-image, image-pairwise}
-use Rattle.theory.specs.Laws.Syntax.{sameTerm-iff, onAtoms-iff, onAtoms-within, onAtoms-map, terms-atoms, terms-answers}
+use Rattle.theory.specs.Laws.Lists.{any-same}
+use Rattle.theory.specs.Laws.Syntax.{sameTerm-iff}
 use Rattle.theory.specs.Laws.Equivalence.{term-into}
+use Rattle.theory.specs.Laws.Promising.{promising-renaming, renaming-promising}
 use Rattle.theory.specs.Laws.RenamingDecided.{alike-iff}
-use Rattle.sets.specs.Sets.{holds, holds-none}
+use Rattle.sets.specs.Sets.{holds}
+use Rattle.sets.specs.Laws.Digits.{holds-none}
 use Rattle.words.specs.Words.{queryOf, Small}
 use Rattle.words.specs.declared.QueryWords.{QueryWords}
-use Rattle.words.specs.LowVariables.{atom-low}
-use Rattle.renaming.specs.Partial.{entry, mayBe, promising, Sends}
+use Rattle.words.specs.Laws.LowVariables.{atom-low}
+use Rattle.renaming.specs.Partial.{entry, mayBe, Sends}
 use Rattle.renaming.specs.Search.{Ready, Begun, Follows, Renaming, GoesOn, Offers, Allows, Judges, Decides}
 use Rattle.renaming.specs.declared.partial.Partial.{Partial}
 use Rattle.renaming.specs.declared.search.Compared.{Compared}
-
--- ---- what `promising` tests
-
-abbrev Promising : Partial → Query → Query → Type 0
-Promising m p q =
-    T (pairwise (mayBe m) (p .answers) (q .answers))
-    × ((a : Atom Term) → a ∈ p .atoms → (b : Atom Term) × (b ∈ q .atoms) × T (onAtoms (mayBe m) a b))
-    × ((b : Atom Term) → b ∈ q .atoms → (a : Atom Term) × (a ∈ p .atoms) × T (onAtoms (mayBe m) a b))
-
-promising-iff : (m : Partial) (p q : Query) → T (promising m p q) ↔ Promising m p q
-unfolding promising
-promising-iff m p q =
-    let answers : Bool = pairwise (mayBe m) (p .answers) (q .answers) in
-    let go : Bool = all (λ a. any (λ b. onAtoms (mayBe m) a b) (q .atoms)) (p .atoms) in
-    let come : Bool = all (λ b. any (λ a. onAtoms (mayBe m) a b) (p .atoms)) (q .atoms) in
-    let go-iff = all-any-iff (λ a b. onAtoms (mayBe m) a b) (p .atoms) (q .atoms) in
-    let come-iff = all-any-iff (λ b a. onAtoms (mayBe m) a b) (q .atoms) (p .atoms) in (
-      λ t. (let s = T-and (answers && go) come .0 t in let r = T-and answers go .0 (s .0) in (r .0, go-iff .0 (r .1), come-iff .0 (s .1))),
-      λ t. T-and (answers && go) come .1 (T-and answers go .1 (t .0, go-iff .1 (t .1)), come-iff .1 (t .2)),
-    )
 
 -- ---- a promising partial renaming that sends every variable is a renaming
 
@@ -63,26 +45,11 @@ mayBe-image m (var v) (const d) h t = absurd t
 mayBe-image m (const c) (var w) h t = absurd t
 mayBe-image m (const c) (const d) h t = ap const (T-eqb c d .0 t)
 
-sent-renaming : (p q : Query) (m : Partial) → ((v : ℕ) → var v ∈ terms p → v < 32) → Begun p 32 m → promising m p q ≡ true → Alike p q
+sent-renaming : (p q : Query) (m : Partial) → ((v : ℕ) → var v ∈ terms p → v < 32) → Begun p 32 m → promising (mayBe m) p q ≡ true
+    → Alike p q
 sent-renaming p q m low begun e =
-    record {
-      to = entry m;
-      one-to-one = λ u v i j d. begun .apart u v i j (begun .sent u (low u i) i) d;
-      on-answers = pairwise-image (mayBe m) (rename (entry m)) (p .answers) (q .answers) (λ s t n. image s t (terms-answers p n)) (r .0);
-      into = λ a n. (let b = r .1 a n in Memᴰ·cast (image-atom a (b .0) n (b .2)) (b .1));
-      onto = λ b n. (let a = r .2 b n in (a .0, a .1, image-atom (a .0) b (a .1) (a .2)));
-    }
-  where
-    r : Promising m p q
-    r = promising-iff m p q .0 (subst T (sym e) tt)
-
-    image : (s t : Term) → s ∈ terms p → T (mayBe m s t) → rename (entry m) s ≡ t
-    image s t n = mayBe-image m s t (λ v d. (let i : var v ∈ terms p = Memᴰ·cast (sym d) n in begun .sent v (low v i) i))
-
-    image-atom : (a b : Atom Term) → a ∈ p .atoms → T (onAtoms (mayBe m) a b) → mapAtom (rename (entry m)) a ≡ b
-    image-atom a b n t =
-        onAtoms-map (rename (entry m)) a b .0
-        (onAtoms-within a b (λ s t i. image s t (terms-atoms p n i)) (onAtoms-iff (mayBe m) a b .0 t))
+    promising-renaming (mayBe m) p q (entry m) (λ u v i j d. begun .apart u v i j (begun .sent u (low u i) i) d)
+    (λ s t n. mayBe-image m s t (λ v d. let i : var v ∈ terms p = Memᴰ·cast (sym d) n in begun .sent v (low v i) i)) (subst T (sym e) tt)
 
 -- ---- where a renaming goes on from a partial one, that one is promising
 
@@ -99,18 +66,8 @@ module _ (p q : Query) (m : Partial) (r : Alike p q) (f : Follows p q m r) where
       go false e = T-eqb (entry m v) (r .to v) .1 (sym (f .goes v n (eqb-false (entry m v) 32 e)))
   follows-may (const c) n = T-eqb c c .1 refl
 
-  follows-promising : promising m p q ≡ true
-  follows-promising =
-      is-true (promising m p q) (promising-iff m p q .1 (
-        subst (λ ts. T (pairwise (mayBe m) (p .answers) ts)) (r .on-answers) (image-pairwise (mayBe m) (rename (r .to)) (p .answers) (λ t n. follows-may t (terms-answers p n))),
-        λ a n. (mapAtom (rename (r .to)) a, r .into a n, on-atom a (mapAtom (rename (r .to)) a) n refl),
-        λ b n. (let a = r .onto b n in (a .0, a .1, on-atom (a .0) b (a .1) (a .2))),
-      ))
-    where
-      on-atom : (a b : Atom Term) → a ∈ p .atoms → mapAtom (rename (r .to)) a ≡ b → T (onAtoms (mayBe m) a b)
-      on-atom a b n e =
-          onAtoms-iff (mayBe m) a b .1
-          (onAtoms-within a b (λ s t i d. subst (λ t. T (mayBe m s t)) d (follows-may s (terms-atoms p n i))) (onAtoms-map (rename (r .to)) a b .1 e))
+  follows-promising : promising (mayBe m) p q ≡ true
+  follows-promising = is-true (promising (mayBe m) p q) (renaming-promising (mayBe m) p q r follows-may)
 
 -- ---- a variable is assigned
 
@@ -159,10 +116,12 @@ module _ (m n : Partial) (v w : ℕ) (s : Sends m v w n) where
 
   follows-next : (p q : Query) (r : Alike p q) → Follows p q m r → var v ∈ terms p → entry m v ≡ 32 → r .to v ≡ w → Follows p q n r
   follows-next p q r f i z e = record {
-    goes = λ u j d. elim (either-entry u) [ inl y ↦ ap (r .to) (y .0) ∙ e ∙ sym (y .1) | inr y ↦ f .goes u j (λ k. d (y .1 ∙ k)) ∙ sym (y .1) ];
+    goes = λ u j d.
+        elim (either-entry u) [ inl y ↦ ap (r .to) (y .0) ∙ e ∙ sym (y .1) | inr y ↦ f .goes u j (λ k. d (y .1 ∙ k)) ∙ sym (y .1) ];
     comes = λ x t. elim (T-or (eqb x w) (holds (m .taken) x) .0 (subst T (s .targets x) t)) [
       | inl h ↦ (v, i, (λ k. not-nowhere (sym sent-entry ∙ k)), e ∙ sym (T-eqb x w .0 h))
-      | inr h ↦ (let c = f .comes x h in (c .0, c .1, (λ k. elim (either-entry (c .0)) [ inl y ↦ c .2 (ap (entry m) (y .0) ∙ z) | inr y ↦ c .2 (sym (y .1) ∙ k) ]), c .3))
+      | inr h ↦ (let c = f .comes x h in
+          (c .0, c .1, (λ k. elim (either-entry (c .0)) [ inl y ↦ c .2 (ap (entry m) (y .0) ∙ z) | inr y ↦ c .2 (sym (y .1) ∙ k) ]), c .3))
     ];
   }
 
@@ -203,7 +162,8 @@ held-not set v b e f = sym e ∙ not-false b f
 pub held-true : (set v : ℕ) (b : Bool) → b ≡ holds set v → b ≡ true → holds set v ≡ true
 held-true set v b e f = sym e ∙ f
 
-pub variable-held : (q : Query) (set v : ℕ) → ((u : ℕ) → holds set u ≡ any (sameTerm (var u)) (terms q)) → T (holds set v) ↔ (var v ∈ terms q)
+pub variable-held : (q : Query) (set v : ℕ) → ((u : ℕ) → holds set u ≡ any (sameTerm (var u)) (terms q))
+    → T (holds set v) ↔ (var v ∈ terms q)
 variable-held q set v h =
     let iff = any-same sameTerm sameTerm-iff (var v) (terms q) in (
       λ t. iff .0 (subst T (h v) t),
@@ -217,8 +177,11 @@ module _ (s : Compared) (m : Partial) (w : ℕ) (b : Bool) (e : b ≡ holds (s .
   pub no-target : b ≡ false → false ≡ (holds (s .targets) w && not (holds (m .taken) w))
   no-target f = simp (sym e, f)
 
-not-taken : (s : Compared) (m : Partial) (w : ℕ) (b : Bool) → b ≡ (holds (s .targets) w && not (holds (m .taken) w)) → b ≡ true → holds (m .taken) w ≡ false
-not-taken s m w b e f = is-false (holds (m .taken) w) (T-no (holds (m .taken) w) .0 (T-and (holds (s .targets) w) (not (holds (m .taken) w)) .0 (subst T (sym f ∙ e) tt) .1))
+not-taken : (s : Compared) (m : Partial) (w : ℕ) (b : Bool) → b ≡ (holds (s .targets) w && not (holds (m .taken) w)) → b ≡ true
+    → holds (m .taken) w ≡ false
+not-taken s m w b e f =
+    is-false (holds (m .taken) w)
+    (T-no (holds (m .taken) w) .0 (T-and (holds (s .targets) w) (not (holds (m .taken) w)) .0 (subst T (sym f ∙ e) tt) .1))
 
 module _ (s : Compared) (ready : Ready s) where
   source-stands : (v : ℕ) → holds (s .sources) v ≡ true → var v ∈ terms (queryOf (s .p))
@@ -226,18 +189,24 @@ module _ (s : Compared) (ready : Ready s) where
 
   -- where a renaming sends a variable there is a variable of the other query
   image-held : (r : Renaming s) (v : ℕ) → holds (s .sources) v ≡ true → T (holds (s .targets) (r .to v))
-  image-held r v e = variable-held (queryOf (s .q)) (s .targets) (r .to v) (ready .targets) .1 (term-into (queryOf (s .p)) (queryOf (s .q)) r (source-stands v e))
+  image-held r v e =
+      variable-held (queryOf (s .q)) (s .targets) (r .to v) (ready .targets) .1
+      (term-into (queryOf (s .p)) (queryOf (s .q)) r (source-stands v e))
 
   image-low : (r : Renaming s) (v : ℕ) → holds (s .sources) v ≡ true → r .to v < 32
   image-low r v e = ready .small-q .variables (r .to v) (term-into (queryOf (s .p)) (queryOf (s .q)) r (source-stands v e))
 
-  module _ (m : Partial) (v w : ℕ) (b : Bool) (e : holds (s .sources) v ≡ true) (free : b ≡ (holds (s .targets) w && not (holds (m .taken) w))) where
+  module _ (m : Partial) (v w : ℕ) (b : Bool) (e : holds (s .sources) v ≡ true)
+      (free : b ≡ (holds (s .targets) w && not (holds (m .taken) w))) where
     pub not-offered : entry m v ≡ 32 → b ≡ false → Offers s m v w false
     not-offered z f = record {
-      offers = λ r g d. sym f ∙ free ∙ is-true (holds (s .targets) w && not (holds (m .taken) w)) (T-and (holds (s .targets) w) (not (holds (m .taken) w)) .1 (
-        subst (λ u. T (holds (s .targets) u)) d (image-held r v e),
-        T-no (holds (m .taken) w) .1 (λ t. let o = g .comes w t in o .2 (ap (entry m) (r .one-to-one (o .0) v (o .1) (source-stands v e) (o .3 ∙ sym d)) ∙ z)),
-      ));
+      offers = λ r g d.
+          sym f ∙ free ∙ is-true (holds (s .targets) w && not (holds (m .taken) w))
+          (T-and (holds (s .targets) w) (not (holds (m .taken) w)) .1 (
+            subst (λ u. T (holds (s .targets) u)) d (image-held r v e),
+            T-no (holds (m .taken) w) .1
+                (λ t. let o = g .comes w t in o .2 (ap (entry m) (r .one-to-one (o .0) v (o .1) (source-stands v e) (o .3 ∙ sym d)) ∙ z)),
+          ));
       untaken = λ h. absurd (subst T (sym h) tt);
     }
 
@@ -258,7 +227,12 @@ seeks-first s m v ready e z = record { ready = ready; source = e; unsent = z; be
 
 module _ (s : Compared) (m : Partial) (v w : ℕ) (k : Seeks s m v w) where
   past : ((r : Renaming s) → GoesOn s m r → r .to v ≡ w → ⊥) → Seeks s m v (w + 1)
-  past f = record { ready = k .ready; source = k .source; unsent = k .unsent; beyond = λ r g. (let h = k .beyond r g in let d = f r g in omega arith) }
+  past f = record {
+    ready = k .ready;
+    source = k .source;
+    unsent = k .unsent;
+    beyond = λ r g. (let h = k .beyond r g in let d = f r g in omega arith);
+  }
 
   pub past-unoffered : (b : Bool) → Offers s m v w b → b ≡ false → Seeks s m v (w + 1)
   past-unoffered b o f = past (λ r g d. subst T (sym (o .offers r g d) ∙ f) tt)
@@ -266,9 +240,10 @@ module _ (s : Compared) (m : Partial) (v w : ℕ) (k : Seeks s m v w) where
   module _ (n : Partial) (b : Bool) where
     past-refused : Allows s n b → b ≡ false → Sends m v w n → Seeks s m v (w + 1)
     past-refused a f sends = past (λ r g d.
-        subst T (sym (a .allows r (follows-next m n v w sends (queryOf (s .p)) (queryOf (s .q)) r g (source-stands s (k .ready) v (k .source)) (k .unsent) d)) ∙ f) tt)
+        subst T (sym (a .allows r (follows-next m n v w sends (queryOf (s .p)) (queryOf (s .q)) r g
+        (source-stands s (k .ready) v (k .source)) (k .unsent) d)) ∙ f) tt)
 
-    pub past-unpromising : b ≡ promising n (queryOf (s .p)) (queryOf (s .q)) → b ≡ false → Sends m v w n → Seeks s m v (w + 1)
+    pub past-unpromising : b ≡ promising (mayBe n) (queryOf (s .p)) (queryOf (s .q)) → b ≡ false → Sends m v w n → Seeks s m v (w + 1)
     past-unpromising d = past-refused (record { allows = λ r g. d ∙ follows-promising (queryOf (s .p)) (queryOf (s .q)) n r g })
 
     pub past-unviable : Judges s n b → b ≡ false → Sends m v w n → Seeks s m v (w + 1)
@@ -293,14 +268,17 @@ module _ (s : Compared) (ready : Ready s) where
     pub refused : (b : Bool) → b ≡ false → Allows s m b → Allows s m false
     refused b e a = record { allows = λ r g. sym e ∙ a .allows r g }
 
-    module _ (b : Bool) (e : b ≡ promising m (queryOf (s .p)) (queryOf (s .q))) where
+    module _ (b : Bool) (e : b ≡ promising (mayBe m) (queryOf (s .p)) (queryOf (s .q))) where
       pub looked-ahead : (r : Bool) → b ≡ true → Allows s m r → Judges s m r
       looked-ahead r f a = record { promises = λ h. sym e ∙ f; permits = a }
 
       pub unpromising : b ≡ false → Judges s m false
-      unpromising f = record { promises = λ h. absurd (subst T (sym h) tt); permits = record { allows = λ r g. sym f ∙ e ∙ follows-promising (queryOf (s .p)) (queryOf (s .q)) m r g } }
+      unpromising f = record {
+        promises = λ h. absurd (subst T (sym h) tt);
+        permits = record { allows = λ r g. sym f ∙ e ∙ follows-promising (queryOf (s .p)) (queryOf (s .q)) m r g };
+      }
 
-    pub judged : (b : Bool) → Judges s m b → b ≡ true → promising m (queryOf (s .p)) (queryOf (s .q)) ≡ true
+    pub judged : (b : Bool) → Judges s m b → b ≡ true → promising (mayBe m) (queryOf (s .p)) (queryOf (s .q)) ≡ true
     judged b j e = j .promises e
 
     pub none-left : Allows s m false → Decides s m false
@@ -309,9 +287,11 @@ module _ (s : Compared) (ready : Ready s) where
     pub one-found : (n : Partial) (b : Bool) → Decides s n b → b ≡ true → Decides s m true
     one-found n b d e = record { found = λ f. d .found e; complete = λ r g. refl }
 
-    pub all-sent : (v : ℕ) → v ≡ 32 → Begun (queryOf (s .p)) v m → promising m (queryOf (s .p)) (queryOf (s .q)) ≡ true → Decides s m true
+    pub all-sent : (v : ℕ) → v ≡ 32 → Begun (queryOf (s .p)) v m → promising (mayBe m) (queryOf (s .p)) (queryOf (s .q)) ≡ true
+        → Decides s m true
     all-sent v z b e = record {
-      found = λ f. sent-renaming (queryOf (s .p)) (queryOf (s .q)) m (ready .small-p .variables) (subst (λ k. Begun (queryOf (s .p)) k m) z b) e;
+      found = λ f.
+          sent-renaming (queryOf (s .p)) (queryOf (s .q)) m (ready .small-p .variables) (subst (λ k. Begun (queryOf (s .p)) k m) z b) e;
       complete = λ r g. refl;
     }
 
@@ -321,8 +301,11 @@ module _ (s : Compared) (ready : Ready s) where
     pub unsent : (v : ℕ) → v ≤ 32 → (v ≡ 32 → ⊥) → Begun (queryOf (s .p)) v m → entry m v ≡ 32
     unsent v h d b = b .left v (le-refl v) (omega arith)
 
-    pub passed-over : (v : ℕ) (b : Bool) → b ≡ holds (s .sources) v → not b ≡ true → Begun (queryOf (s .p)) v m → Begun (queryOf (s .p)) (v + 1) m
-    passed-over v b e f = begun-past (queryOf (s .p)) v m (λ i. subst T (sym e ∙ not-true b f) (variable-held (queryOf (s .p)) (s .sources) v (ready .sources) .1 i))
+    pub passed-over : (v : ℕ) (b : Bool) → b ≡ holds (s .sources) v → not b ≡ true → Begun (queryOf (s .p)) v m
+        → Begun (queryOf (s .p)) (v + 1) m
+    passed-over v b e f =
+        begun-past (queryOf (s .p)) v m
+        (λ i. subst T (sym e ∙ not-true b f) (variable-held (queryOf (s .p)) (s .sources) v (ready .sources) .1 i))
 
 module _ (s : Compared) (m : Partial) (b : Bool) where
   pub not-as-many : (Renaming s → b ≡ true) → b ≡ false → Decides s m false
@@ -332,25 +315,32 @@ module _ (s : Compared) (m : Partial) (b : Bool) where
 
 -- the answer is that of the definition
 equals-alike : (p q : Query) (b : Bool) → (b ≡ true → Alike p q) → (Alike p q → b ≡ true) → b ≡ alike p q
-equals-alike p q b found complete = same-test b (alike p q) (λ t. alike-iff p q .1 (found (is-true b t)), λ t. subst T (sym (complete (alike-iff p q .0 t))) tt)
+equals-alike p q b found complete =
+    same-test b (alike p q) (λ t. alike-iff p q .1 (found (is-true b t)), λ t. subst T (sym (complete (alike-iff p q .0 t))) tt)
 
-module _ (m : Partial) (to : m .to ≡ replicate 32 32) (taken : m .taken ≡ 0) (p q : QueryWords) (small-p : Small p) (small-q : Small q) where
-  pub begun-first : (s : Compared) → s .p ≡ p → Begun (queryOf (s .p)) 0 m
-  begun-first s e = subst (λ k. Begun (queryOf k) 0 m) (sym e) (begun-nothing m to taken (queryOf p) (small-p .variables))
+module _ (m : Partial) (to : m .to ≡ replicate 32 32) (taken : m .taken ≡ 0) (p q : QueryWords) (small-p : Small p) (small-q : Small q)
+  where
+    pub begun-first : (s : Compared) → s .p ≡ p → Begun (queryOf (s .p)) 0 m
+    begun-first s e = subst (λ k. Begun (queryOf k) 0 m) (sym e) (begun-nothing m to taken (queryOf p) (small-p .variables))
 
-  pub promising-first : (s : Compared) (b : Bool) → s .p ≡ p → s .q ≡ q → b ≡ promising m (queryOf p) (queryOf q) → b ≡ true → promising m (queryOf (s .p)) (queryOf (s .q)) ≡ true
-  promising-first s b e f h i = rw (e, f) (sym h ∙ i)
+    pub promising-first : (s : Compared) (b : Bool) → s .p ≡ p → s .q ≡ q → b ≡ promising (mayBe m) (queryOf p) (queryOf q) → b ≡ true
+        → promising (mayBe m) (queryOf (s .p)) (queryOf (s .q)) ≡ true
+    promising-first s b e f h i = rw (e, f) (sym h ∙ i)
 
-  pub decided : (s : Compared) (b : Bool) → s .p ≡ p → s .q ≡ q → Decides s m b → b ≡ alike (queryOf p) (queryOf q)
-  decided s b e f d =
-      let low : (v : ℕ) → var v ∈ terms (queryOf (s .p)) → v < 32 = subst (λ k. (v : ℕ) → var v ∈ terms (queryOf k) → v < 32) (sym e) (small-p .variables) in
-      let h : b ≡ alike (queryOf (s .p)) (queryOf (s .q)) = equals-alike (queryOf (s .p)) (queryOf (s .q)) b (d .found) (λ r. d .complete r (follows-nothing m to taken (queryOf (s .p)) low (queryOf (s .q)) r)) in
-      rw (e, f) at h
+    pub decided : (s : Compared) (b : Bool) → s .p ≡ p → s .q ≡ q → Decides s m b → b ≡ alike (queryOf p) (queryOf q)
+    decided s b e f d =
+        let low : (v : ℕ) → var v ∈ terms (queryOf (s .p)) → v < 32 =
+        subst (λ k. (v : ℕ) → var v ∈ terms (queryOf k) → v < 32) (sym e) (small-p .variables) in
+        let h : b ≡ alike (queryOf (s .p)) (queryOf (s .q)) =
+        equals-alike (queryOf (s .p)) (queryOf (s .q)) b (d .found)
+        (λ r. d .complete r (follows-nothing m to taken (queryOf (s .p)) low (queryOf (s .q)) r)) in
+        rw (e, f) at h
 
-  pub unlike : (b : Bool) → b ≡ promising m (queryOf p) (queryOf q) → b ≡ false → false ≡ alike (queryOf p) (queryOf q)
-  unlike b e f =
-      equals-alike (queryOf p) (queryOf q) false (λ h. absurd (subst T (sym h) tt))
-      (λ r. sym f ∙ e ∙ follows-promising (queryOf p) (queryOf q) m r (follows-nothing m to taken (queryOf p) (small-p .variables) (queryOf q) r))
+    pub unlike : (b : Bool) → b ≡ promising (mayBe m) (queryOf p) (queryOf q) → b ≡ false → false ≡ alike (queryOf p) (queryOf q)
+    unlike b e f =
+        equals-alike (queryOf p) (queryOf q) false (λ h. absurd (subst T (sym h) tt))
+        (λ r. sym f ∙ e ∙ follows-promising (queryOf p) (queryOf q) m r
+        (follows-nothing m to taken (queryOf p) (small-p .variables) (queryOf q) r))
 
 pub ruleset laws = (
   needs,

@@ -2,11 +2,11 @@
 -- targets taken.
 use mathlib.Core.Path.{_≡_}
 use Prim.Native.Nat.{ℕ, _<_}
-use mathlib.Core.Bool.{Bool, false, not, _&&_, _||_}
+use mathlib.Core.Bool.{Bool, false, not, _||_}
 use lib.Dec.{eqb}
 use lib.ListN.{length, getD, set}
-use Rattle.theory.specs.Lists.{pick, any, all, pairwise}
-use Rattle.theory.specs.Syntax.{Term, var, const, Query, onAtoms}
+use Rattle.theory.specs.Lists.{pick}
+use Rattle.theory.specs.Syntax.{Term, var, const}
 use Rattle.sets.specs.Sets.{holds}
 use Rattle.renaming.specs.declared.partial.Partial.{Partial}
 
@@ -14,21 +14,14 @@ use Rattle.renaming.specs.declared.partial.Partial.{Partial}
 abbrev pub entry : Partial → ℕ → ℕ
 entry m v = getD (m .to) v 0
 
--- a term of the first query may still become one of the second: v goes to w already, or neither is assigned
+-- a term of the first query may still become one of the second: v goes to w already, or neither is assigned; so partly assigned
+-- atoms count
 unfoldable pub mayBe : Partial → Term → Term → Bool
 unfolding holds
 mayBe m (var v) (var w) = pick (eqb (entry m v) 32) (not (holds (m .taken) w)) (eqb (entry m v) w)
 mayBe m (var v) (const d) = false
 mayBe m (const c) (var w) = false
 mayBe m (const c) (const d) = eqb c d
-
--- no answer term and no atom, as far as it is assigned, speaks against m; partly assigned atoms count
-unfoldable pub promising : Partial → Query → Query → Bool
-unfolding mayBe onAtoms pairwise any all
-promising m p q =
-    pairwise (mayBe m) (p .answers) (q .answers)
-    && all (λ a. any (λ b. onAtoms (mayBe m) a b) (q .atoms)) (p .atoms)
-    && all (λ b. any (λ a. onAtoms (mayBe m) a b) (p .atoms)) (q .atoms)
 
 -- n is m with v, which has an entry, sent to w
 pub record Sends (m : Partial) (v w : ℕ) (n : Partial) : Type 0 where

@@ -5,10 +5,10 @@ use mathlib.Core.Bool.{Bool, true, false}
 use lib.Dec.{T}
 use Rattle.theory.specs.Lists.{_∈_, any}
 use Rattle.theory.specs.Syntax.{var, Query, terms, sameTerm}
-use Rattle.theory.specs.Renaming.{Alike}
+use Rattle.theory.specs.Renaming.{Alike, promising}
 use Rattle.sets.specs.Sets.{holds}
 use Rattle.words.specs.Words.{queryOf, Small}
-use Rattle.renaming.specs.Partial.{entry, promising}
+use Rattle.renaming.specs.Partial.{entry, mayBe}
 use Rattle.renaming.specs.declared.partial.Partial.{Partial}
 use Rattle.renaming.specs.declared.search.Compared.{Compared}
 
@@ -49,7 +49,7 @@ pub record Allows (s : Compared) (m : Partial) (b : Bool) : Type 0 where
 
 -- and where it is yes, m is promising
 pub record Judges (s : Compared) (m : Partial) (b : Bool) : Type 0 where
-  pub promises : b ≡ true → promising m (queryOf (s .p)) (queryOf (s .q)) ≡ true
+  pub promises : b ≡ true → promising (mayBe m) (queryOf (s .p)) (queryOf (s .q)) ≡ true
   pub permits : Allows s m b
 
 -- where a renaming goes on from m the answer is yes, and where it is yes there is a renaming

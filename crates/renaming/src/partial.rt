@@ -12,10 +12,10 @@ ghost use Prim.Native.Nat.{_<_};
 ghost use lib.ListN.{replicate};
 ghost use Rattle.theory.specs.Lists.{any, all, pairwise};
 ghost use Rattle.theory.specs.Syntax.{var, onAtoms};
-ghost use Rattle.words.specs.Records.{termOf, atomOf};
-ghost use Rattle.words.specs.Words.{queryOf, Small};
-ghost use Rattle.words.specs.LowVariables.{LowTerm, LowAtom};
-ghost use Rattle.renaming.specs.Partial.{mayBe, promising as promisingIn, Sends};
+ghost use Rattle.theory.specs.Renaming.{promising as promisingIn};
+ghost use Rattle.words.specs.Words.{queryOf, Small, wordTerm, wordAtom, LowTerm, LowAtom};
+ghost use Rattle.words.specs.Limits.{wordTermBound};
+ghost use Rattle.renaming.specs.Partial.{mayBe, Sends};
 ghost use Rattle.renaming.specs.Gathered.{samePredicate};
 
 // Where each variable goes, 32 where it is not assigned, and the set of the targets taken.
@@ -55,8 +55,8 @@ fn may_go(m: Partial, v: u32, w: u32) -> bool
 
 // Whether the term s may still become t. The word of an object is higher than 32, and no other term has it.
 fn may_be(m: Partial, s: u64, t: u64) -> bool
-    requires { ⌜ LowTerm s × LowTerm t × (s < 33554432) × (t < 33554432) ⌝ }
-    ensures { λ r. ⌜ r ≡ mayBe m (termOf 24 s) (termOf 24 t) ⌝ }
+    requires { ⌜ LowTerm s × LowTerm t × (s < wordTermBound) × (t < wordTermBound) ⌝ }
+    ensures { λ r. ⌜ r ≡ mayBe m (wordTerm s) (wordTerm t) ⌝ }
 {
     if s < 32 {
         if t < 32 {
@@ -71,7 +71,7 @@ fn may_be(m: Partial, s: u64, t: u64) -> bool
 
 // Whether the atoms have one predicate.
 pub fn same_predicate(a: u64, b: u64) -> bool
-    ensures { λ r. ⌜ r ≡ samePredicate (atomOf 24 a) (atomOf 24 b) ⌝ }
+    ensures { λ r. ⌜ r ≡ samePredicate (wordAtom a) (wordAtom b) ⌝ }
 {
     if kind_of(a) == kind_of(b) {
         number_of(a) == number_of(b)
@@ -82,8 +82,8 @@ pub fn same_predicate(a: u64, b: u64) -> bool
 
 // Whether the atom a may still become b, which has its predicate.
 fn may_terms(m: Partial, a: u64, b: u64) -> bool
-    requires { ⌜ LowAtom a × LowAtom b × (samePredicate (atomOf 24 a) (atomOf 24 b) ≡ true) ⌝ }
-    ensures { λ r. ⌜ r ≡ onAtoms (mayBe m) (atomOf 24 a) (atomOf 24 b) ⌝ }
+    requires { ⌜ LowAtom a × LowAtom b × (samePredicate (wordAtom a) (wordAtom b) ≡ true) ⌝ }
+    ensures { λ r. ⌜ r ≡ onAtoms (mayBe m) (wordAtom a) (wordAtom b) ⌝ }
 {
     if may_be(m, first_term(a), first_term(b)) {
         if kind_of(a) == 0 {
@@ -99,7 +99,7 @@ fn may_terms(m: Partial, a: u64, b: u64) -> bool
 // Whether the atom a may still become b.
 fn may_atom(m: Partial, a: u64, b: u64) -> bool
     requires { ⌜ LowAtom a × LowAtom b ⌝ }
-    ensures { λ r. ⌜ r ≡ onAtoms (mayBe m) (atomOf 24 a) (atomOf 24 b) ⌝ }
+    ensures { λ r. ⌜ r ≡ onAtoms (mayBe m) (wordAtom a) (wordAtom b) ⌝ }
 {
     if same_predicate(a, b) {
         may_terms(m, a, b)
@@ -111,7 +111,7 @@ fn may_atom(m: Partial, a: u64, b: u64) -> bool
 // Whether the atom a may still become some atom of q.
 fn goes_somewhere(m: Partial, a: u64, q: QueryWords) -> bool
     requires { ⌜ LowAtom a × Small q ⌝ }
-    ensures { λ r. ⌜ r ≡ any (λ b. onAtoms (mayBe m) (atomOf 24 a) b) (queryOf q .atoms) ⌝ }
+    ensures { λ r. ⌜ r ≡ any (λ b. onAtoms (mayBe m) (wordAtom a) b) (queryOf q .atoms) ⌝ }
 {
     let atoms = q.atoms;
     let n = q.size;
@@ -128,7 +128,7 @@ fn goes_somewhere(m: Partial, a: u64, q: QueryWords) -> bool
 // Whether some atom of p may still become the atom b.
 fn comes_from_some(m: Partial, p: QueryWords, b: u64) -> bool
     requires { ⌜ Small p × LowAtom b ⌝ }
-    ensures { λ r. ⌜ r ≡ any (λ a. onAtoms (mayBe m) a (atomOf 24 b)) (queryOf p .atoms) ⌝ }
+    ensures { λ r. ⌜ r ≡ any (λ a. onAtoms (mayBe m) a (wordAtom b)) (queryOf p .atoms) ⌝ }
 {
     let atoms = p.atoms;
     let n = p.size;
@@ -203,7 +203,7 @@ fn answers_go(m: Partial, p: QueryWords, q: QueryWords) -> bool
 // Whether no answer term and no atom speaks against the partial renaming.
 pub fn promising(m: Partial, p: QueryWords, q: QueryWords) -> bool
     requires { ⌜ Small p × Small q ⌝ }
-    ensures { λ r. ⌜ r ≡ promisingIn m (queryOf p) (queryOf q) ⌝ }
+    ensures { λ r. ⌜ r ≡ promisingIn (mayBe m) (queryOf p) (queryOf q) ⌝ }
 {
     if answers_go(m, p, q) {
         if all_go(m, p, q) {

@@ -9,8 +9,7 @@ ghost use Prim.Native.Nat.{_<_};
 ghost use Rattle.theory.specs.Lists.{_∈_};
 ghost use Rattle.theory.specs.Syntax.{var, terms};
 ghost use Rattle.theory.specs.Renaming.{Alike};
-ghost use Rattle.words.specs.Records.{atomOf};
-ghost use Rattle.words.specs.Words.{queryOf, Small};
+ghost use Rattle.words.specs.Words.{queryOf, Small, wordAtom};
 ghost use Rattle.renaming.specs.Gathered.{standsIn, samePredicate, Gathers};
 
 // The variables of the atoms that have v in them.
@@ -36,7 +35,7 @@ pub fn beside(q: QueryWords, v: u32) -> u32
 // The variables of the atoms that have the predicate of a.
 fn spread(q: QueryWords, a: u64) -> u32
     requires { ⌜ Small q ⌝ }
-    ensures { λ r. ⌜ Gathers (samePredicate (atomOf 24 a)) (queryOf q) r ⌝ }
+    ensures { λ r. ⌜ Gathers (samePredicate (wordAtom a)) (queryOf q) r ⌝ }
 {
     let atoms = q.atoms;
     let n = q.size;

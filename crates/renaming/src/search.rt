@@ -12,10 +12,10 @@ use words::QueryWords;
 ghost use mathlib.Core.Path.{_≡_};
 ghost use mathlib.Core.Bool.{true, not, _&&_};
 ghost use Prim.Native.Nat.{_+_, _≤_, _<_};
-ghost use Rattle.theory.specs.Renaming.{alike as alikeIn};
+ghost use Rattle.theory.specs.Renaming.{alike as alikeIn, promising as promisingIn};
 ghost use Rattle.sets.specs.Sets.{holds};
 ghost use Rattle.words.specs.Words.{queryOf, Small};
-ghost use Rattle.renaming.specs.Partial.{entry, promising as promisingIn};
+ghost use Rattle.renaming.specs.Partial.{entry, mayBe};
 ghost use Rattle.renaming.specs.Search.{Ready, Begun, Offers, Allows, Judges, Decides};
 
 // Two queries with the sets of their variables.
@@ -134,7 +134,7 @@ fn viable(s: Compared, v: u32, m: Partial) -> bool
 
 // Whether a renaming goes on from the partial one, in which the variables below v are assigned.
 fn complete(s: Compared, v: u32, m: Partial) -> bool
-    requires { ⌜ Ready s × (v ≤ 32) × Begun (queryOf (s .p)) v m × (promisingIn m (queryOf (s .p)) (queryOf (s .q)) ≡ true) ⌝ }
+    requires { ⌜ Ready s × (v ≤ 32) × Begun (queryOf (s .p)) v m × (promisingIn (mayBe m) (queryOf (s .p)) (queryOf (s .q)) ≡ true) ⌝ }
     ensures { λ r. ⌜ Decides s m r ⌝ }
 {
     if v == 32 {
@@ -165,7 +165,7 @@ fn complete(s: Compared, v: u32, m: Partial) -> bool
 
 // Whether there is a renaming, nothing being assigned yet.
 fn found(s: Compared, m: Partial) -> bool
-    requires { ⌜ Ready s × Begun (queryOf (s .p)) 0 m × (promisingIn m (queryOf (s .p)) (queryOf (s .q)) ≡ true) ⌝ }
+    requires { ⌜ Ready s × Begun (queryOf (s .p)) 0 m × (promisingIn (mayBe m) (queryOf (s .p)) (queryOf (s .q)) ≡ true) ⌝ }
     ensures { λ r. ⌜ Decides s m r ⌝ }
 {
     let p = s.p;

@@ -1,3 +1,5 @@
+pub mod Ascii
 pub mod Report
+pub mod Text
 pub mod Put
 pub mod Laws

@@ -5,6 +5,9 @@ use mathlib.Core.Bool.{cond}
 use mathlib.Core.List.{List, [], _∷_, _++_}
 use lib.Dec.{eqb, ltb}
 use lib.ListN.{getD}
+use Rattle.words.specs.Limits.{objectBytes}
+use Rattle.sheets.specs.AnswerList.{tupleSize}
+use Rattle.report.specs.Ascii.{ascii}
 
 abbrev pub newline : ℕ
 newline = 10
@@ -12,13 +15,11 @@ newline = 10
 abbrev pub space : ℕ
 space = 32
 
--- "refused "
 abbrev pub refusedText : List ℕ
-refusedText = 114 ∷ 101 ∷ 102 ∷ 117 ∷ 115 ∷ 101 ∷ 100 ∷ space ∷ []
+refusedText = ascii "refused "
 
--- "accepted "
 abbrev pub acceptedText : List ℕ
-acceptedText = 97 ∷ 99 ∷ 99 ∷ 101 ∷ 112 ∷ 116 ∷ 101 ∷ 100 ∷ space ∷ []
+acceptedText = ascii "accepted "
 
 -- a number below 10 is its digit; any other, the number without its last digit, and that digit. `0` has the code 48. The first argument
 -- only bounds the number of digits.
@@ -49,18 +50,20 @@ objectAt list at = 256 * getD list at 0 + getD list (at + 1) 0
 -- the tuple of so many terms at byte `at`
 unfoldable pub objectsAt : List ℕ → ℕ → ℕ → List ℕ
 objectsAt list at zero = []
-objectsAt list at (suc terms) = objectAt list at ∷ objectsAt list (at + 2) terms
+objectsAt list at (suc terms) = objectAt list at ∷ objectsAt list (at + objectBytes) terms
 
 -- the lines of so many tuples from byte `at` on
 unfoldable pub linesAt : List ℕ → ℕ → ℕ → ℕ → List ℕ
 unfolding line objectsAt
 linesAt list at terms zero = []
-linesAt list at terms (suc count) = line (objectsAt list at terms) ++ linesAt list (at + 2 * terms) terms count
+linesAt list at terms (suc count) = line (objectsAt list at terms) ++ linesAt list (at + tupleSize terms) terms count
+
+-- a word, a number, and the end of the line
+abbrev pub firstLine : List ℕ → ℕ → List ℕ
+firstLine word n = word ++ (decimalOf n ++ (newline ∷ []))
 
 -- THE TEXT for a number, a count, the question's number of answer terms, and the bytes of an answer list
 unfoldable pub report : ℕ → ℕ → ℕ → List ℕ → List ℕ
 unfolding decimalOf linesAt
 report number count terms list =
-    cond (eqb number 0)
-    (acceptedText ++ (decimalOf count ++ (newline ∷ [])) ++ linesAt list 0 terms count)
-    (refusedText ++ (decimalOf number ++ (newline ∷ [])))
+    cond (eqb number 0) (firstLine acceptedText count ++ linesAt list 0 terms count) (firstLine refusedText number)

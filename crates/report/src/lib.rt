@@ -1,20 +1,14 @@
 // The text of an outcome, as the program prints it (01, "The program and its cards").
 use io::decimal;
+use records::bytes::wide;
 ghost use mathlib.Core.Path.{_≡_};
 ghost use Prim.Native.Nat.{_+_, _*_, _≤_, _<_};
 ghost use mathlib.Core.Bool.{cond};
 ghost use mathlib.Core.List.{_∷_, [], _++_};
 ghost use lib.ListN.{length, take};
 ghost use Rattle.io.specs.Counts.{Counts};
-ghost use Rattle.report.specs.Report.{decimalOf, objectAt, objectsAt, line, linesAt, newline, space, report as reportOf};
+ghost use Rattle.report.specs.Report.{decimalOf, objectAt, objectsAt, line, linesAt, firstLine, newline, space, report as reportOf};
 ghost use Rattle.report.specs.Put.{Put};
-
-// A byte of a list, as a number.
-fn wide(x: u8) -> u64
-    ensures { λ r. ⌜ (r ≡ x) × (r < 256) ⌝ }
-{
-    x as u64
-}
 
 // Puts the piece behind the first `end` bytes of out, and returns where it ends.
 fn put(out: &mut [u8], end: usize, piece: &[u8]) -> usize
@@ -54,7 +48,8 @@ fn separator(last: bool) -> u8
 // Puts the object there that stands at byte `at` of the list, and what stands behind it. Five digits are the most.
 fn put_object(list: &[u8], at: usize, last: bool, out: &mut [u8], end: usize) -> usize
     requires { ⌜ (at + 2 ≤ length (now list)) × (end + 6 ≤ length (now out)) ⌝ }
-    ensures { λ r. ⌜ Put (now (out .entry)) end (decimalOf (objectAt (now (list .entry)) at) ++ (cond last newline space ∷ [])) (now (out .exit)) r × (r ≤ end + 6) ⌝ }
+    ensures { λ r. ⌜ Put (now (out .entry)) end (decimalOf (objectAt (now (list .entry)) at) ++ (cond last newline space ∷ []))
+        (now (out .exit)) r × (r ≤ end + 6) ⌝ }
 {
     let high = wide(list[at]);
     let low = wide(list[at + 1]);
@@ -65,7 +60,8 @@ fn put_object(list: &[u8], at: usize, last: bool, out: &mut [u8], end: usize) ->
 // Puts the line of one answer there: its objects in decimal with single spaces. The empty tuple has no line.
 fn put_line(list: &[u8], at: usize, terms: usize, out: &mut [u8], end: usize) -> usize
     requires { ⌜ (at + 2 * terms ≤ length (now list)) × (end + 6 * terms ≤ length (now out)) ⌝ }
-    ensures { λ r. ⌜ Put (now (out .entry)) end (line (objectsAt (now (list .entry)) at terms)) (now (out .exit)) r × (r ≤ end + 6 * terms) ⌝ }
+    ensures { λ r. ⌜ Put (now (out .entry)) end (line (objectsAt (now (list .entry)) at terms)) (now (out .exit)) r
+        × (r ≤ end + 6 * terms) ⌝ }
 {
     let mut left = terms;
     let mut from = at;
@@ -97,14 +93,14 @@ fn put_lines(list: &[u8], terms: usize, count: u64, out: &mut [u8], end: usize) 
 // Puts a first line at the start of out: a word and a number of at most 20 digits.
 fn put_first(word: &[u8], n: u64, out: &mut [u8]) -> usize
     requires { ⌜ (length (now word) ≤ 9) × (30 ≤ length (now out)) ⌝ }
-    ensures { λ r. ⌜ Put (now (out .entry)) 0 (now (word .entry) ++ (decimalOf n ++ (newline ∷ []))) (now (out .exit)) r × (r ≤ 30) ⌝ }
+    ensures { λ r. ⌜ Put (now (out .entry)) 0 (firstLine (now (word .entry)) n) (now (out .exit)) r × (r ≤ 30) ⌝ }
 {
     let named = put(out, 0, word);
     let numbered = put_decimal(out, named, n);
     put_byte(out, numbered, b'\n')
 }
 
-// Puts the whole text at the start of out and returns its length: the refusal's number; or the count, and a line for each answer of the list.
+// Puts the whole text at the start of out and returns its length: the refusal's number; or the count, and a line for each answer.
 pub fn put_report(number: u32, count: u64, terms: usize, list: &[u8], out: &mut [u8]) -> usize
     requires { ⌜ (number ≡ 0 → 2 * terms * count ≤ length (now list)) × (30 + 3 * length (now list) ≤ length (now out)) ⌝ }
     ensures text { λ r. ⌜ take r (now (out .exit)) ≡ reportOf number count terms (now (list .entry)) ⌝ }

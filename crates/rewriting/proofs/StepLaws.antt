@@ -17,17 +17,21 @@ use Rattle.theory.specs.Lists.{_∈_, At, pick, any, without, once}
 use Rattle.theory.specs.Syntax.{Term, var, const, Rule, Query, args, terms, mapAtom, subst-term, sameAtom}
 use Rattle.theory.specs.Rewriting.{rewriteAtom, unify, keepOnce, substitute, changeAtom, ruleStep, mergeStep}
 use Rattle.theory.specs.Laws.Options.{same-test}
+use Rattle.theory.specs.Laws.Spellings.{same-comm, spellings}
+use Rattle.theory.specs.Laws.Scans.{record-at, record-past}
 use Rattle.theory.specs.Laws.Lists.{any-same, once-mem, mem-once}
 use Rattle.theory.specs.Laws.Syntax.{sameAtom-iff, terms-atoms, terms-answers, terms-cases, terms-from, keepOnce-mem}
-use Rattle.words.specs.Records.{ruleOf, termOf, atomOf}
-use Rattle.words.specs.Words.{TermWords, queryOf, Small}
+use Rattle.words.specs.Records.{ruleIn}
+use Rattle.words.specs.Words.{TermWords, queryOf, Small, wordTerm, wordAtom, LowAtom}
+use Rattle.words.specs.Limits.{wordTermBound}
+use Rattle.words.specs.Laws.Scans.{queryScans}
 use Rattle.words.specs.declared.QueryWords.{QueryWords}
-use Rattle.words.specs.LowVariables.{LowAtom, answer-low, atom-low, first-more, from, from-cons, from-nil}
+use Rattle.words.specs.Laws.LowVariables.{answer-low, atom-low}
+use Rattle.words.specs.Laws.Loops.{first-more}
 use Rattle.rule_on_atom.specs.RuleOnAtom.{atomFound}
-use Rattle.substitution.specs.Substitutions.{SmallTerm, Sound, substOf, boundOf}
+use Rattle.substitution.specs.Substitutions.{SmallTerm, Sound, substOf, unifierOf}
 use Rattle.rewriting.specs.StepResults.{onceEach, withAtom, queryFound}
 use Rattle.substitution.specs.declared.Substitution.{Substitution}
-use Rattle.substitution.specs.declared.Bound.{Bound}
 use Rattle.rule_on_atom.specs.declared.AtomFound.{AtomFound}
 use Rattle.rewriting.specs.declared.steps.QueryFound.{QueryFound}
 use Rattle.substitution.proofs.SubstitutionLaws.{place, each-stored, below32, each-below}
@@ -35,21 +39,10 @@ use Rattle.substitution.proofs.SubstitutionLaws.{place, each-stored, below32, e
 -- ---- on lists
 
 -- the first i + 1 words, the last of them just stored
-stored-last : {X : Type 0} (f : ℕ → X) (words : List ℕ) (i v : ℕ) → i < length words → map f (take (i + 1) (set words i v)) ≡ map f (take i words) ++ (f v ∷ [])
-stored-last f words i v h = ap (λ k. map f (take k (set words i v))) (add-one i) ∙ ap (map f) (take-suc-set words i v h) ∙ map-append f (take i words) (v ∷ [])
-
--- what stands at an index among the first n
-at-word : {X : Type 0} (f : ℕ → X) (n : ℕ) (words : List ℕ) (i : ℕ) → i < n → n ≤ length words → getElem? (map f (take n words)) i ≡ some (f (getD words i 0))
-at-word f zero words i h g = absurd (omega arith)
-at-word f (suc n) [] i h g = absurd (omega arith)
-at-word f (suc n) (w ∷ words) zero h g = refl
-at-word f (suc n) (w ∷ words) (suc i) h g = at-word f n words i (omega arith) (omega arith)
-
-past-word : {X : Type 0} (f : ℕ → X) (n : ℕ) (words : List ℕ) (i : ℕ) → n ≤ i → getElem? (map f (take n words)) i ≡ none
-past-word f zero words i h = refl
-past-word f (suc n) [] i h = refl
-past-word f (suc n) (w ∷ words) zero h = absurd (omega arith)
-past-word f (suc n) (w ∷ words) (suc i) h = past-word f n words i (omega arith)
+stored-last : {X : Type 0} (f : ℕ → X) (words : List ℕ) (i v : ℕ) → i < length words
+    → map f (take (i + 1) (set words i v)) ≡ map f (take i words) ++ (f v ∷ [])
+stored-last f words i v h =
+    ap (λ k. map f (take k (set words i v))) (add-one i) ∙ ap (map f) (take-suc-set words i v h) ∙ map-append f (take i words) (v ∷ [])
 
 -- an element changed at one index
 map-set : {X Y : Type 0} (f : X → Y) (xs : List X) (i : ℕ) (x : X) → map f (set xs i x) ≡ set (map f xs) i (f x)
@@ -68,28 +61,35 @@ mem-set (y ∷ ys) (suc i) b (List·Memᴰ·tail m) = elim (mem-set ys i b m) [ 
 without-append : {X : Type 0} (p : X → Bool) (xs ys : List X) → without p (xs ++ ys) ≡ without p xs ++ without p ys
 unfolding without
 without-append p [] ys = refl
-without-append p (x ∷ xs) ys = ap (λ l. pick (p x) l (x ∷ l)) (without-append p xs ys) ∙ (elim (p x) as (λ b. pick b (without p xs ++ without p ys) (x ∷ (without p xs ++ without p ys)) ≡ pick b (without p xs) (x ∷ without p xs) ++ without p ys) [ true ↦ refl | false ↦ refl ])
+without-append p (x ∷ xs) ys =
+    ap (λ l. pick (p x) l (x ∷ l)) (without-append p xs ys)
+    ∙ (elim (p x) as (λ b. pick b (without p xs ++ without p ys) (x ∷ (without p xs ++ without p ys))
+    ≡ pick b (without p xs) (x ∷ without p xs) ++ without p ys)
+    [ true ↦ refl | false ↦ refl ])
 
 module _ {X : Type 0} (same : X → X → Bool) (same-iff : (x y : X) → T (same x y) ↔ (x ≡ y)) where
-  same-comm : (x y : X) → same x y ≡ same y x
-  same-comm x y = same-test (same x y) (same y x) (λ t. same-iff y x .1 (sym (same-iff x y .0 t)), λ t. same-iff x y .1 (sym (same-iff y x .0 t)))
-
   -- the element y after the list xs goes where it stands in xs
   once-snoc : (xs : List X) (y : X) → once same (xs ++ (y ∷ [])) ≡ pick (any (same y) xs) (once same xs) (once same xs ++ (y ∷ []))
   unfolding once any without
   once-snoc [] y = refl
   once-snoc (x ∷ xs) y = first (any (same y) xs) (once-snoc xs y)
     where
-      last : (b : Bool) → same x y ≡ b → x ∷ (without (same x) (once same xs) ++ without (same x) (y ∷ [])) ≡ pick (same y x || false) (x ∷ without (same x) (once same xs)) (x ∷ (without (same x) (once same xs) ++ (y ∷ [])))
-      last true e = simp (e, sym (same-comm x y) ∙ e, append-nil)
-      last false e = simp (e, sym (same-comm x y) ∙ e)
+      last : (b : Bool) → same x y ≡ b
+          → x ∷ (without (same x) (once same xs) ++ without (same x) (y ∷ []))
+          ≡ pick (same y x || false) (x ∷ without (same x) (once same xs)) (x ∷ (without (same x) (once same xs) ++ (y ∷ [])))
+      last true e = simp (e, sym (same-comm same same-iff x y) ∙ e, append-nil)
+      last false e = simp (e, sym (same-comm same same-iff x y) ∙ e)
 
-      first : (b : Bool) → once same (xs ++ (y ∷ [])) ≡ pick b (once same xs) (once same xs ++ (y ∷ [])) → x ∷ without (same x) (once same (xs ++ (y ∷ []))) ≡ pick (same y x || b) (x ∷ without (same x) (once same xs)) (x ∷ (without (same x) (once same xs) ++ (y ∷ [])))
+      first : (b : Bool) → once same (xs ++ (y ∷ [])) ≡ pick b (once same xs) (once same xs ++ (y ∷ []))
+          → x ∷ without (same x) (once same (xs ++ (y ∷ [])))
+          ≡ pick (same y x || b) (x ∷ without (same x) (once same xs)) (x ∷ (without (same x) (once same xs) ++ (y ∷ [])))
       first true e = ap (λ l. x ∷ without (same x) l) e ∙ sym (simp or-true)
-      first false e = ap (λ l. x ∷ without (same x) l) e ∙ ap (λ l. x ∷ l) (without-append (same x) (once same xs) (y ∷ [])) ∙ last (same x y) refl
+      first false e =
+          ap (λ l. x ∷ without (same x) l) e ∙ ap (λ l. x ∷ l) (without-append (same x) (once same xs) (y ∷ [])) ∙ last (same x y) refl
 
   -- which is where it stands among those that were kept
-  once-more : (xs : List X) (y : X) → once same (xs ++ (y ∷ [])) ≡ pick (any (same y) (once same xs)) (once same xs) (once same xs ++ (y ∷ []))
+  once-more : (xs : List X) (y : X)
+      → once same (xs ++ (y ∷ [])) ≡ pick (any (same y) (once same xs)) (once same xs) (once same xs ++ (y ∷ []))
   once-more xs y =
       once-snoc xs y
       ∙ ap (λ b. pick b (once same xs) (once same xs ++ (y ∷ [])))
@@ -98,39 +98,19 @@ module _ {X : Type 0} (same : X → X → Bool) (same-iff : (x y : X) → T (sam
         λ t. any-same same same-iff y xs .1 (once-mem same same-iff xs (any-same same same-iff y (once same xs) .0 t)),
       ))
 
--- ---- an atom among those of a query
-
--- whether the atom is among those from index i to below n
-abbrev pub atomFrom : ℕ → ℕ → List ℕ → ℕ → Bool
-atomFrom a n atoms i = any (sameAtom (atomOf 24 a)) (map (atomOf 24) (from i n atoms))
-
-module _ (q : QueryWords) (a i : ℕ) (l : length (q .atoms) ≡ 8) (g : q .size ≤ 8) (left : atomFrom a (q .size) (q .atoms) i ≡ atomFrom a (q .size) (q .atoms) 0) where
-  atom-next : i < q .size → atomFrom a (q .size) (q .atoms) 0 ≡ (sameAtom (atomOf 24 a) (atomOf 24 (getD (q .atoms) i 0)) || atomFrom a (q .size) (q .atoms) (i + 1))
-  unfolding any
-  atom-next h = sym left ∙ simp (from-cons (q .atoms) i (q .size) h (omega arith))
-
-  pub atom-found : (b : Bool) → i < q .size → b ≡ sameAtom (atomOf 24 a) (atomOf 24 (getD (q .atoms) i 0)) → b ≡ true → true ≡ any (sameAtom (atomOf 24 a)) (queryOf q .atoms)
-  unfolding queryOf
-  atom-found b h e f = sym (atom-next h ∙ simp (sym e ∙ f))
-
-  pub atom-later : (b : Bool) → i < q .size → b ≡ sameAtom (atomOf 24 a) (atomOf 24 (getD (q .atoms) i 0)) → b ≡ false → atomFrom a (q .size) (q .atoms) (i + 1) ≡ atomFrom a (q .size) (q .atoms) 0
-  atom-later b h e f = sym (atom-next h ∙ simp (sym e ∙ f))
-
-  pub no-atom : q .size ≤ i → false ≡ any (sameAtom (atomOf 24 a)) (queryOf q .atoms)
-  unfolding queryOf any
-  no-atom h = sym (sym left ∙ simp (from-nil (q .atoms) i (q .size) h (omega arith)))
-
 -- ---- equal atoms kept once
 
-module _ (q : QueryWords) (a : ℕ) (b : Bool) (e : b ≡ any (sameAtom (atomOf 24 a)) (queryOf q .atoms)) where
-  pub atom-stands : b ≡ true → queryOf q ≡ withAtom (queryOf q) (atomOf 24 a)
+module _ (q : QueryWords) (a : ℕ) (b : Bool) (e : b ≡ any (sameAtom (wordAtom a)) (queryOf q .atoms)) where
+  pub atom-stands : b ≡ true → queryOf q ≡ withAtom (queryOf q) (wordAtom a)
   unfolding withAtom
   atom-stands f = sym (simp (sym e ∙ f))
 
-  pub atom-appended : length (q .atoms) ≡ 8 → q .size < 8 → b ≡ false → queryOf (record { terms = q .terms; answers = q .answers; size = q .size + 1; atoms = set (q .atoms) (q .size) a }) ≡ withAtom (queryOf q) (atomOf 24 a)
+  pub atom-appended : length (q .atoms) ≡ 8 → q .size < 8 → b ≡ false
+      → queryOf (record { terms = q .terms; answers = q .answers; size = q .size + 1; atoms = set (q .atoms) (q .size) a })
+      ≡ withAtom (queryOf q) (wordAtom a)
   unfolding withAtom queryOf
   atom-appended l h f =
-      ap (λ x. record { answers = queryOf q .answers; atoms = x }) (stored-last (atomOf 24) (q .atoms) (q .size) a (omega arith))
+      ap (λ x. record { answers = queryOf q .answers; atoms = x }) (stored-last wordAtom (q .atoms) (q .size) a (omega arith))
       ∙ sym (simp (sym e ∙ f))
 
 -- the query with its first i atoms
@@ -141,18 +121,21 @@ pub none-kept : (q : QueryWords) → queryOf (cut q 0) ≡ onceEach (queryOf (cu
 unfolding queryOf onceEach
 none-kept q = refl
 
-pub atom-kept : (q kept r : QueryWords) (i n : ℕ) → length (q .atoms) ≡ 8 → i < n → n ≤ 8 → queryOf kept ≡ onceEach (queryOf (cut q i)) → queryOf r ≡ withAtom (queryOf kept) (atomOf 24 (getD (q .atoms) i 0)) → queryOf r ≡ onceEach (queryOf (cut q (i + 1)))
+pub atom-kept : (q kept r : QueryWords) (i n : ℕ) → length (q .atoms) ≡ 8 → i < n → n ≤ 8 → queryOf kept ≡ onceEach (queryOf (cut q i))
+    → queryOf r ≡ withAtom (queryOf kept) (wordAtom (getD (q .atoms) i 0)) → queryOf r ≡ onceEach (queryOf (cut q (i + 1)))
 unfolding queryOf onceEach withAtom
 atom-kept q kept r i n l h g e d =
-    d ∙ ap (λ p. withAtom p (atomOf 24 (getD (q .atoms) i 0))) e
+    d ∙ ap (λ p. withAtom p (wordAtom (getD (q .atoms) i 0))) e
     ∙ ap (λ x. record { answers = queryOf q .answers; atoms = x })
-    (sym (ap keepOnce (first-more (atomOf 24) (q .atoms) i (omega arith)) ∙ once-more sameAtom sameAtom-iff (map (atomOf 24) (take i (q .atoms))) (atomOf 24 (getD (q .atoms) i 0))))
+    (sym (ap keepOnce (first-more wordAtom (q .atoms) i (omega arith))
+    ∙ once-more sameAtom sameAtom-iff (map wordAtom (take i (q .atoms))) (wordAtom (getD (q .atoms) i 0))))
 
 -- ---- what is known of the query after a step
 
 onceEach-terms : (p : Query) {t : Term} → t ∈ terms (onceEach p) → t ∈ terms p
 unfolding onceEach
-onceEach-terms p m = elim (terms-cases (onceEach p) m) [ inl n ↦ terms-answers p n | inr w ↦ terms-atoms p (keepOnce-mem (p .atoms) (w .1)) (w .2) ]
+onceEach-terms p m =
+    elim (terms-cases (onceEach p) m) [ inl n ↦ terms-answers p n | inr w ↦ terms-atoms p (keepOnce-mem (p .atoms) (w .1)) (w .2) ]
 
 module _ (q kept : QueryWords) (i : ℕ) (h : i ≤ q .size) (g : q .size ≤ i) (e : queryOf kept ≡ onceEach (queryOf (cut q i))) where
   pub all-kept : queryOf kept ≡ onceEach (queryOf q)
@@ -173,9 +156,9 @@ abbrev storedAt : QueryWords → ℕ → ℕ → QueryWords
 storedAt q i b = record { terms = q .terms; answers = q .answers; size = q .size; atoms = set (q .atoms) i b }
 
 module _ (q : QueryWords) (i b : ℕ) (h : i < q .size) where
-  atoms-changed : queryOf (storedAt q i b) .atoms ≡ set (queryOf q .atoms) i (atomOf 24 b)
+  atoms-changed : queryOf (storedAt q i b) .atoms ≡ set (queryOf q .atoms) i (wordAtom b)
   unfolding queryOf
-  atoms-changed = ap (map (atomOf 24)) (take-set-lt (q .size) (q .atoms) i b h) ∙ map-set (atomOf 24) (take (q .size) (q .atoms)) i b
+  atoms-changed = ap (map wordAtom) (take-set-lt (q .size) (q .atoms) i b h) ∙ map-set wordAtom (take (q .size) (q .atoms)) i b
 
   pub changed-small : Small q → LowAtom b → Small (storedAt q i b)
   unfolding queryOf
@@ -185,49 +168,60 @@ module _ (q : QueryWords) (i b : ℕ) (h : i < q .size) where
     answer-words = s .answer-words;
     variables = λ v m. elim (terms-cases (queryOf (storedAt q i b)) m) [
       | inl n ↦ s .variables v (terms-answers (queryOf q) n)
-      | inr w ↦ elim (mem-set (queryOf q .atoms) i (atomOf 24 b) (subst (λ l. w .0 ∈ l) atoms-changed (w .1))) [
+      | inr w ↦ elim (mem-set (queryOf q .atoms) i (wordAtom b) (subst (λ l. w .0 ∈ l) atoms-changed (w .1))) [
         | inl e ↦ low v (subst (λ a. var v ∈ args a) e (w .2))
         | inr n ↦ s .variables v (terms-atoms (queryOf q) n (w .2))
       ]
     ];
   }
 
-  pub atom-changed : (r : QueryWords) → queryOf r ≡ onceEach (queryOf (storedAt q i b)) → queryOf r ≡ changeAtom (queryOf q) i (atomOf 24 b)
+  pub atom-changed : (r : QueryWords) → queryOf r ≡ onceEach (queryOf (storedAt q i b)) → queryOf r ≡ changeAtom (queryOf q) i (wordAtom b)
   unfolding queryOf onceEach changeAtom
   atom-changed r e = e ∙ ap (λ l. record { answers = queryOf q .answers; atoms = keepOnce l }) atoms-changed
 
 -- ---- a query under a replacement
 
-filled-more : {X : Type 0} (f : ℕ → X) (g : X → X) (l words : List ℕ) (i v : ℕ) → i < length l → i < length words → map f (take i words) ≡ map g (map f (take i l)) → f v ≡ g (f (getD l i 0)) → map f (take (i + 1) (set words i v)) ≡ map g (map f (take (i + 1) l))
+filled-more : {X : Type 0} (f : ℕ → X) (g : X → X) (l words : List ℕ) (i v : ℕ) → i < length l → i < length words
+    → map f (take i words) ≡ map g (map f (take i l)) → f v ≡ g (f (getD l i 0))
+    → map f (take (i + 1) (set words i v)) ≡ map g (map f (take (i + 1) l))
 filled-more f g l words i v h h′ e d =
     stored-last f words i v h′ ∙ ap₂ (λ x y. x ++ (y ∷ [])) e d
     ∙ sym (ap (map g) (first-more f l i h) ∙ map-append g (map f (take i l)) (f (getD l i 0) ∷ []))
 
 module _ (σ : ℕ → Term) (l : List ℕ) where
-  pub no-term-filled : [] ≡ map (subst-term σ) (map (termOf 24) (take 0 l))
+  pub no-term-filled : [] ≡ map (subst-term σ) (map wordTerm (take 0 l))
   no-term-filled = refl
 
-  pub no-atom-filled : [] ≡ map (mapAtom (subst-term σ)) (map (atomOf 24) (take 0 l))
+  pub no-atom-filled : [] ≡ map (mapAtom (subst-term σ)) (map wordAtom (take 0 l))
   no-atom-filled = refl
 
   module _ (words : List ℕ) (i v : ℕ) where
-    pub term-filled : (n : ℕ) → length l ≡ 4 → length words ≡ 4 → i < n → n ≤ 4 → map (termOf 24) (take i words) ≡ map (subst-term σ) (map (termOf 24) (take i l)) → termOf 24 v ≡ subst-term σ (termOf 24 (getD l i 0)) → map (termOf 24) (take (i + 1) (set words i v)) ≡ map (subst-term σ) (map (termOf 24) (take (i + 1) l))
-    term-filled n k m h g = filled-more (termOf 24) (subst-term σ) l words i v (omega arith) (omega arith)
+    pub term-filled : (n : ℕ) → length l ≡ 4 → length words ≡ 4 → i < n → n ≤ 4
+        → map wordTerm (take i words) ≡ map (subst-term σ) (map wordTerm (take i l)) → wordTerm v ≡ subst-term σ (wordTerm (getD l i 0))
+        → map wordTerm (take (i + 1) (set words i v)) ≡ map (subst-term σ) (map wordTerm (take (i + 1) l))
+    term-filled n k m h g = filled-more wordTerm (subst-term σ) l words i v (omega arith) (omega arith)
 
-    pub atom-filled : (n : ℕ) → length l ≡ 8 → length words ≡ 8 → i < n → n ≤ 8 → map (atomOf 24) (take i words) ≡ map (mapAtom (subst-term σ)) (map (atomOf 24) (take i l)) → atomOf 24 v ≡ mapAtom (subst-term σ) (atomOf 24 (getD l i 0)) → map (atomOf 24) (take (i + 1) (set words i v)) ≡ map (mapAtom (subst-term σ)) (map (atomOf 24) (take (i + 1) l))
-    atom-filled n k m h g = filled-more (atomOf 24) (mapAtom (subst-term σ)) l words i v (omega arith) (omega arith)
+    pub atom-filled : (n : ℕ) → length l ≡ 8 → length words ≡ 8 → i < n → n ≤ 8
+        → map wordAtom (take i words) ≡ map (mapAtom (subst-term σ)) (map wordAtom (take i l))
+        → wordAtom v ≡ mapAtom (subst-term σ) (wordAtom (getD l i 0))
+        → map wordAtom (take (i + 1) (set words i v)) ≡ map (mapAtom (subst-term σ)) (map wordAtom (take (i + 1) l))
+    atom-filled n k m h g = filled-more wordAtom (mapAtom (subst-term σ)) l words i v (omega arith) (omega arith)
 
-filled-all : {X : Type 0} (f : ℕ → X) (g : X → X) (l words : List ℕ) (i n : ℕ) → i ≤ n → n ≤ i → map f (take i words) ≡ map g (map f (take i l)) → map f (take n words) ≡ map g (map f (take n l))
+filled-all : {X : Type 0} (f : ℕ → X) (g : X → X) (l words : List ℕ) (i n : ℕ) → i ≤ n → n ≤ i
+    → map f (take i words) ≡ map g (map f (take i l)) → map f (take n words) ≡ map g (map f (take n l))
 filled-all f g l words i n h k e = let d : i ≡ n = omega arith in subst (λ m. map f (take m words) ≡ map g (map f (take m l))) d e
 
 module _ (q : QueryWords) (σ : ℕ → Term) (words : List ℕ) (i : ℕ) where
-  pub terms-filled : i ≤ q .terms → q .terms ≤ i → map (termOf 24) (take i words) ≡ map (subst-term σ) (map (termOf 24) (take i (q .answers))) → map (termOf 24) (take (q .terms) words) ≡ map (subst-term σ) (queryOf q .answers)
+  pub terms-filled : i ≤ q .terms → q .terms ≤ i → map wordTerm (take i words) ≡ map (subst-term σ) (map wordTerm (take i (q .answers)))
+      → map wordTerm (take (q .terms) words) ≡ map (subst-term σ) (queryOf q .answers)
   unfolding queryOf
-  terms-filled = filled-all (termOf 24) (subst-term σ) (q .answers) words i (q .terms)
+  terms-filled = filled-all wordTerm (subst-term σ) (q .answers) words i (q .terms)
 
-  pub atoms-filled : i ≤ q .size → q .size ≤ i → map (atomOf 24) (take i words) ≡ map (mapAtom (subst-term σ)) (map (atomOf 24) (take i (q .atoms))) → map (atomOf 24) (take (q .size) words) ≡ map (mapAtom (subst-term σ)) (queryOf q .atoms)
+  pub atoms-filled : i ≤ q .size → q .size ≤ i
+      → map wordAtom (take i words) ≡ map (mapAtom (subst-term σ)) (map wordAtom (take i (q .atoms)))
+      → map wordAtom (take (q .size) words) ≡ map (mapAtom (subst-term σ)) (queryOf q .atoms)
   unfolding queryOf
-  atoms-filled = filled-all (atomOf 24) (mapAtom (subst-term σ)) (q .atoms) words i (q .size)
+  atoms-filled = filled-all wordAtom (mapAtom (subst-term σ)) (q .atoms) words i (q .size)
 
 -- what is known of each word
 pub small-answer : (q : QueryWords) (i : ℕ) → Small q → length (q .answers) ≡ 4 → i < q .terms → SmallTerm (getD (q .answers) i 0)
@@ -237,14 +231,17 @@ pub zero-words : (l : List ℕ) → T (below32 l) → TermWords l
 zero-words l t k = let h : getD l k 0 < 32 = each-below l t k in omega arith
 
 pub term-stored : (l : List ℕ) (i w : ℕ) → TermWords l → SmallTerm w → TermWords (set l i w)
-term-stored l i w h s = each-stored (λ x. x < 33554432) l i w h (s .word)
+term-stored l i w h s = each-stored (λ x. x < wordTermBound) l i w h (s .word)
 
-module _ (s : Substitution) (q : QueryWords) (answers atoms : List ℕ) (e : map (termOf 24) (take (q .terms) answers) ≡ map (subst-term (substOf s)) (queryOf q .answers)) (d : map (atomOf 24) (take (q .size) atoms) ≡ map (mapAtom (subst-term (substOf s))) (queryOf q .atoms)) where
+module _ (s : Substitution) (q : QueryWords) (answers atoms : List ℕ)
+    (e : map wordTerm (take (q .terms) answers) ≡ map (subst-term (substOf s)) (queryOf q .answers))
+    (d : map wordAtom (take (q .size) atoms) ≡ map (mapAtom (subst-term (substOf s))) (queryOf q .atoms)) where
   -- the words of the query under the replacement
   abbrev sent : QueryWords
   sent = record { terms = q .terms; answers = answers; size = q .size; atoms = atoms }
 
-  sent-variable : Sound s → ((v : ℕ) → var v ∈ terms (queryOf q) → v < 32) → (t : Term) → t ∈ terms (queryOf q) → (v : ℕ) → subst-term (substOf s) t ≡ var v → v < 32
+  sent-variable : Sound s → ((v : ℕ) → var v ∈ terms (queryOf q) → v < 32) → (t : Term) → t ∈ terms (queryOf q) → (v : ℕ)
+      → subst-term (substOf s) t ≡ var v → v < 32
   sent-variable sound low (var u) m v f = sound u .low v (sym f ∙ place s u (low u m))
   sent-variable sound low (const c) m v f = absurd (let z : _≡_ {A = ℕ} 0 1 = cc in omega arith)
 
@@ -255,7 +252,9 @@ module _ (s : Substitution) (q : QueryWords) (answers atoms : List ℕ) (e : map
     few-atoms = small .few-atoms;
     answer-words = words;
     variables = λ v m.
-        let w = terms-from (queryOf q) (queryOf sent) (subst-term (substOf s)) (sym e) (λ b n. Memᴰ·of-map (mapAtom (subst-term (substOf s))) (queryOf q .atoms) (subst (λ l. b ∈ l) d n)) m in
+        let w =
+        terms-from (queryOf q) (queryOf sent) (subst-term (substOf s)) (sym e)
+        (λ b n. Memᴰ·of-map (mapAtom (subst-term (substOf s))) (queryOf q .atoms) (subst (λ l. b ∈ l) d n)) m in
         sent-variable sound (small .variables) (w .0) (w .1) v (w .2);
   }
 
@@ -273,34 +272,39 @@ pub still-small : (q p : QueryWords) → Small q → p ≡ q → Small p
 still-small q p s e = subst Small (sym e) s
 
 module _ (q : QueryWords) (i : ℕ) where
-  pub atom-at : length (q .atoms) ≡ 8 → Small q → i < q .size → getElem? (queryOf q .atoms) i ≡ some (atomOf 24 (getD (q .atoms) i 0))
+  pub atom-at : length (q .atoms) ≡ 8 → Small q → i < q .size → getElem? (queryOf q .atoms) i ≡ some (wordAtom (getD (q .atoms) i 0))
   unfolding queryOf
-  atom-at l s h = at-word (atomOf 24) (q .size) (q .atoms) i h (omega (arith, s .few-atoms))
+  atom-at l s h = record-at wordAtom (q .atoms) (q .size) (omega (arith, s .few-atoms)) i h
 
   atom-past : q .size ≤ i → getElem? (queryOf q .atoms) i ≡ none
   unfolding queryOf
-  atom-past h = past-word (atomOf 24) (q .size) (q .atoms) i h
+  atom-past h = record-past wordAtom (q .atoms) (q .size) i h
 
   pub made-low : (b : ℕ) → length (q .atoms) ≡ 8 → Small q → i < q .size → (LowAtom (getD (q .atoms) i 0) → LowAtom b) → LowAtom b
   made-low b l s h f = f (atom-low q i s l h)
 
 -- a rule on an atom
 module _ (q : QueryWords) (i rule : ℕ) where
-  pub rule-past : (f : QueryFound) → queryFound f ≡ none → q .size ≤ i → (rules : List Rule) (k : ℕ) → At rules k (ruleOf rule) → queryFound f ≡ ruleStep rules (queryOf q) i k
+  pub rule-past : (f : QueryFound) → queryFound f ≡ none → q .size ≤ i → (rules : List Rule) (k : ℕ) → At rules k (ruleIn rule)
+      → queryFound f ≡ ruleStep rules (queryOf q) i k
   unfolding ruleStep
   rule-past f e h rules k at = e ∙ sym (simp (at, atom-past q i h))
 
-  module _ (m : AtomFound) (l : length (q .atoms) ≡ 8) (s : Small q) (h : i < q .size) (e : atomFound m ≡ rewriteAtom (queryOf q) (ruleOf rule) (atomOf 24 (getD (q .atoms) i 0))) where
-    pub rule-unfit : (f : QueryFound) → queryFound f ≡ none → m .found ≡ false → (rules : List Rule) (k : ℕ) → At rules k (ruleOf rule) → queryFound f ≡ ruleStep rules (queryOf q) i k
+  module _ (m : AtomFound) (l : length (q .atoms) ≡ 8) (s : Small q) (h : i < q .size)
+      (e : atomFound m ≡ rewriteAtom (queryOf q) (ruleIn rule) (wordAtom (getD (q .atoms) i 0))) where
+    pub rule-unfit : (f : QueryFound) → queryFound f ≡ none → m .found ≡ false → (rules : List Rule) (k : ℕ) → At rules k (ruleIn rule)
+        → queryFound f ≡ ruleStep rules (queryOf q) i k
     unfolding ruleStep
     rule-unfit f d n rules k at =
-        let unfit : rewriteAtom (queryOf q) (ruleOf rule) (atomOf 24 (getD (q .atoms) i 0)) ≡ none = sym e ∙ simp n in
+        let unfit : rewriteAtom (queryOf q) (ruleIn rule) (wordAtom (getD (q .atoms) i 0)) ≡ none = sym e ∙ simp n in
         d ∙ sym (simp (at, atom-at q i l s h, unfit))
 
-    pub rule-fits : (r : QueryWords) → m .found ≡ true → queryOf r ≡ changeAtom (queryOf q) i (atomOf 24 (m .atom)) → (rules : List Rule) (k : ℕ) → At rules k (ruleOf rule) → queryFound (record { found = true; query = r }) ≡ ruleStep rules (queryOf q) i k
+    pub rule-fits : (r : QueryWords) → m .found ≡ true → queryOf r ≡ changeAtom (queryOf q) i (wordAtom (m .atom))
+        → (rules : List Rule) (k : ℕ) → At rules k (ruleIn rule)
+        → queryFound (record { found = true; query = r }) ≡ ruleStep rules (queryOf q) i k
     unfolding ruleStep queryFound
     rule-fits r y d rules k at =
-        let fits : rewriteAtom (queryOf q) (ruleOf rule) (atomOf 24 (getD (q .atoms) i 0)) ≡ some (atomOf 24 (m .atom)) = sym e ∙ simp y in
+        let fits : rewriteAtom (queryOf q) (ruleIn rule) (wordAtom (getD (q .atoms) i 0)) ≡ some (wordAtom (m .atom)) = sym e ∙ simp y in
         ap some d ∙ sym (simp (at, atom-at q i l s h, fits))
 
 -- a merge of two atoms
@@ -321,27 +325,52 @@ module _ (q : QueryWords) (i j : ℕ) where
           | no m ↦ e ∙ sym (simp (lt-ltb i j h, atom-past q i (omega arith)))
         ]
 
-    module _ (b : Bound) (g : j < q .size) (e : boundOf b ≡ unify (atomOf 24 (getD (q .atoms) i 0)) (atomOf 24 (getD (q .atoms) j 0))) where
-      pub merge-unfit : (f : QueryFound) → queryFound f ≡ none → b .ok ≡ false → queryFound f ≡ mergeStep (queryOf q) i j
-      unfolding mergeStep boundOf
+    module _ (u : Substitution) (g : j < q .size)
+        (e : unifierOf u ≡ unify (wordAtom (getD (q .atoms) i 0)) (wordAtom (getD (q .atoms) j 0))) where
+      pub merge-unfit : (f : QueryFound) → queryFound f ≡ none → u .unified ≡ false → queryFound f ≡ mergeStep (queryOf q) i j
+      unfolding mergeStep unifierOf
       merge-unfit f d n =
-          let unfit : unify (atomOf 24 (getD (q .atoms) i 0)) (atomOf 24 (getD (q .atoms) j 0)) ≡ none = sym e ∙ simp n in
+          let unfit : unify (wordAtom (getD (q .atoms) i 0)) (wordAtom (getD (q .atoms) j 0)) ≡ none = sym e ∙ simp n in
           d ∙ sym (simp (lt-ltb i j h, atom-at q i l s (omega arith), atom-at q j l s g, unfit))
 
-      pub merge-fits : (r : QueryWords) → b .ok ≡ true → queryOf r ≡ substitute (substOf (b .substitution)) (queryOf q) → queryFound (record { found = true; query = r }) ≡ mergeStep (queryOf q) i j
-      unfolding mergeStep boundOf queryFound
+      pub merge-fits : (r : QueryWords) → u .unified ≡ true → queryOf r ≡ substitute (substOf u) (queryOf q)
+          → queryFound (record { found = true; query = r }) ≡ mergeStep (queryOf q) i j
+      unfolding mergeStep unifierOf queryFound
       merge-fits r y d =
-          let fits : unify (atomOf 24 (getD (q .atoms) i 0)) (atomOf 24 (getD (q .atoms) j 0)) ≡ some (substOf (b .substitution)) = sym e ∙ simp y in
+          let fits : unify (wordAtom (getD (q .atoms) i 0)) (wordAtom (getD (q .atoms) j 0)) ≡ some (substOf u) = sym e ∙ simp y in
           ap some d ∙ sym (simp (lt-ltb i j h, atom-at q i l s (omega arith), atom-at q j l s g, fits))
 
-pub ruleset onceLaws = (needs, atom-found, atom-later, no-atom, atom-stands, atom-appended, none-kept, atom-kept, all-kept, kept-small)
+pub ruleset onceLaws = (
+  needs,
+  spellings,
+  queryScans,
+  atom-stands,
+  atom-appended,
+  none-kept,
+  atom-kept,
+  all-kept,
+  kept-small,
+)
 
-pub ruleset changeLaws = (needs, changed-small, atom-changed)
+pub ruleset changeLaws = (needs, spellings, changed-small, atom-changed)
 
-pub ruleset fillLaws = (needs, no-term-filled, no-atom-filled, term-filled, atom-filled, terms-filled, atoms-filled, small-answer, atom-low, zero-words, term-stored)
+pub ruleset fillLaws = (
+  needs,
+  spellings,
+  no-term-filled,
+  no-atom-filled,
+  term-filled,
+  atom-filled,
+  terms-filled,
+  atoms-filled,
+  small-answer,
+  atom-low,
+  zero-words,
+  term-stored,
+)
 
-pub ruleset sentLaws = (needs, sent-small, sent-once)
+pub ruleset sentLaws = (needs, spellings, sent-small, sent-once)
 
-pub ruleset ruleLaws = (needs, nothing-found, still-small, made-low, rule-past, rule-unfit, rule-fits)
+pub ruleset ruleLaws = (needs, spellings, nothing-found, still-small, made-low, rule-past, rule-unfit, rule-fits)
 
-pub ruleset mergeLaws = (needs, still-small, atom-low, earlier-low, merge-order, merge-past, merge-unfit, merge-fits)
+pub ruleset mergeLaws = (needs, spellings, still-small, atom-low, earlier-low, merge-order, merge-past, merge-unfit, merge-fits)

@@ -12,9 +12,8 @@ ghost use lib.ListN.{take};
 ghost use Rattle.theory.specs.Lists.{At, any};
 ghost use Rattle.theory.specs.Syntax.{Rule, mapAtom, subst-term, sameAtom};
 ghost use Rattle.theory.specs.Rewriting.{substitute as substituted, changeAtom, ruleStep, mergeStep};
-ghost use Rattle.words.specs.Records.{ruleOf, termOf, atomOf};
-ghost use Rattle.words.specs.Words.{TermWords, queryOf, Small};
-ghost use Rattle.words.specs.LowVariables.{LowAtom};
+ghost use Rattle.words.specs.Records.{ruleIn};
+ghost use Rattle.words.specs.Words.{TermWords, queryOf, Small, wordTerm, wordAtom, LowAtom};
 ghost use Rattle.substitution.specs.Substitutions.{Sound, substOf};
 ghost use Rattle.rewriting.specs.StepResults.{onceEach, withAtom, queryFound};
 
@@ -27,7 +26,7 @@ pub struct QueryFound {
 // Whether the query has the atom.
 fn has_atom(q: QueryWords, a: u64) -> bool
     requires { ⌜ q .size ≤ 8 ⌝ }
-    ensures { λ r. ⌜ r ≡ any (sameAtom (atomOf 24 a)) (queryOf q .atoms) ⌝ }
+    ensures { λ r. ⌜ r ≡ any (sameAtom (wordAtom a)) (queryOf q .atoms) ⌝ }
 {
     let atoms = q.atoms;
     let n = q.size;
@@ -44,7 +43,8 @@ fn has_atom(q: QueryWords, a: u64) -> bool
 // The query with one atom more, unless it stands there already.
 fn with_atom(mut q: QueryWords, a: u64) -> QueryWords
     requires { ⌜ q .size < 8 ⌝ }
-    ensures { λ r. ⌜ (queryOf r ≡ withAtom (queryOf q) (atomOf 24 a)) × (r .size ≤ q .size + 1) × (r .terms ≡ q .terms) × (r .answers ≡ q .answers) ⌝ }
+    ensures { λ r. ⌜ (queryOf r ≡ withAtom (queryOf q) (wordAtom a)) × (r .size ≤ q .size + 1)
+        × (r .terms ≡ q .terms) × (r .answers ≡ q .answers) ⌝ }
 {
     if has_atom(q, a) {
         return q;
@@ -56,7 +56,7 @@ fn with_atom(mut q: QueryWords, a: u64) -> QueryWords
 }
 
 // The query with equal atoms kept once: the later of two goes.
-pub fn keep_once(q: QueryWords) -> QueryWords
+fn keep_once(q: QueryWords) -> QueryWords
     requires { ⌜ Small q ⌝ }
     ensures { λ r. ⌜ (queryOf r ≡ onceEach (queryOf q)) × Small r ⌝ }
 {
@@ -73,9 +73,9 @@ pub fn keep_once(q: QueryWords) -> QueryWords
 }
 
 // The query with the atom at index i changed to b.
-pub fn change_atom(mut q: QueryWords, i: usize, b: u64) -> QueryWords
+fn change_atom(mut q: QueryWords, i: usize, b: u64) -> QueryWords
     requires { ⌜ Small q × (i < q .size) × LowAtom b ⌝ }
-    ensures { λ r. ⌜ (queryOf r ≡ changeAtom (queryOf q) i (atomOf 24 b)) × Small r ⌝ }
+    ensures { λ r. ⌜ (queryOf r ≡ changeAtom (queryOf q) i (wordAtom b)) × Small r ⌝ }
 {
     q.atoms[i] = b;
     keep_once(q)
@@ -84,7 +84,7 @@ pub fn change_atom(mut q: QueryWords, i: usize, b: u64) -> QueryWords
 // The words of the query's answer terms under the replacement.
 fn apply_answers(s: Substitution, q: QueryWords) -> [u64; 4]
     requires { ⌜ Sound s × Small q ⌝ }
-    ensures { λ r. ⌜ (map (termOf 24) (take (q .terms) r) ≡ map (subst-term (substOf s)) (queryOf q .answers)) × TermWords r ⌝ }
+    ensures { λ r. ⌜ (map wordTerm (take (q .terms) r) ≡ map (subst-term (substOf s)) (queryOf q .answers)) × TermWords r ⌝ }
 {
     let answers = q.answers;
     let n = q.terms;
@@ -102,7 +102,7 @@ fn apply_answers(s: Substitution, q: QueryWords) -> [u64; 4]
 // The words of the query's atoms under the replacement.
 fn apply_atoms(s: Substitution, q: QueryWords) -> [u64; 8]
     requires { ⌜ Sound s × Small q ⌝ }
-    ensures { λ r. ⌜ map (atomOf 24) (take (q .size) r) ≡ map (mapAtom (subst-term (substOf s))) (queryOf q .atoms) ⌝ }
+    ensures { λ r. ⌜ map wordAtom (take (q .size) r) ≡ map (mapAtom (subst-term (substOf s))) (queryOf q .atoms) ⌝ }
 {
     let atoms = q.atoms;
     let n = q.size;
@@ -116,7 +116,7 @@ fn apply_atoms(s: Substitution, q: QueryWords) -> [u64; 8]
 }
 
 // The query under the replacement, in its answer terms and its atoms alike.
-pub fn substitute(s: Substitution, q: QueryWords) -> QueryWords
+fn substitute(s: Substitution, q: QueryWords) -> QueryWords
     requires { ⌜ Sound s × Small q ⌝ }
     ensures { λ r. ⌜ (queryOf r ≡ substituted (substOf s) (queryOf q)) × Small r ⌝ }
 {
@@ -143,7 +143,8 @@ fn no_step(q: QueryWords) -> QueryFound
 // A step of kind 1: the rule on the atom at index i.
 pub fn rule_step(q: QueryWords, i: usize, rule: u64) -> QueryFound
     requires { ⌜ Small q ⌝ }
-    ensures { λ r. ⌜ ((rules : List Rule) (k : ℕ) → At rules k (ruleOf rule) → queryFound r ≡ ruleStep rules (queryOf q) i k) × Small (r .query) ⌝ }
+    ensures { λ r. ⌜ ((rules : List Rule) (k : ℕ) → At rules k (ruleIn rule) → queryFound r ≡ ruleStep rules (queryOf q) i k)
+        × Small (r .query) ⌝ }
 {
     let atoms = q.atoms;
     if q.size <= i {
@@ -172,11 +173,11 @@ pub fn merge_step(q: QueryWords, i: usize, j: usize) -> QueryFound
     if q.size <= j {
         return no_step(q);
     }
-    let merged = unify(atoms[i], atoms[j]);
-    if merged.ok {
+    let unifier = unify(atoms[i], atoms[j]);
+    if unifier.unified {
         QueryFound {
             found: true,
-            query: substitute(merged.substitution, q),
+            query: substitute(unifier, q),
         }
     } else {
         no_step(q)

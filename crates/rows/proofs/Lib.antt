@@ -1,3 +1,4 @@
+pub mod NoStepLaws
 pub mod ScanLaws
 pub mod TableLaws
 pub mod UnionLaws

@@ -1,53 +1,48 @@
 -- A member's words in a table: what is loaded is the member's question.
-use mathlib.Core.Path.{_≡_, refl, sym, ap, _∙_, subst}
-use Prim.Native.Nat.{ℕ, zero, suc, _+_, _*_, _≤_, _<_}
+use mathlib.Core.Path.{_≡_, sym, ap, _∙_, subst}
+use Prim.Native.Nat.{ℕ, _+_, _*_, _≤_, _<_}
 use native.Mathlib.Nat.{add-zero}
 use native.Mathlib.Decide.{decLt}
 use native.Mathlib.Omega.{arith}
 use mathlib.Core.List.{List, [], _∷_, map}
 use lib.Dec.{lit<}
 use lib.ListN.{length, getD, take, drop, length-take, List·getD-eq-default}
-use lib.Seq.{drop-cons, getD-take, getD-drop, take-take, drop-drop}
+use lib.Seq.{getD-take, getD-drop, take-take, drop-drop}
 use borrow.Author.Needs.{needs}
 use Rattle.theory.specs.Lists.{_∈_, numbers}
 use Rattle.theory.specs.Syntax.{var, terms}
-use Rattle.words.specs.Records.{termOf, atomOf}
-use Rattle.words.specs.Words.{TermWords, queryOf, Small, memberOf}
+use Rattle.theory.specs.Laws.Scans.{listed}
+use Rattle.words.specs.Words.{TermWords, queryOf, Small, memberOf, wordTerm, wordAtom}
 use Rattle.words.specs.declared.QueryWords.{QueryWords}
+use Rattle.words.specs.Limits.{wordTermBound}
 use Rattle.rows.specs.Rows.{Row, rowAt, memberAt}
 
 -- ---- words in a row
 
-words-listed : (l : List ℕ) (at k n : ℕ) → at + k + n ≤ length l → take n (drop (at + k) l) ≡ map (λ i. getD l (at + i) 0) (numbers k n)
-unfolding numbers
-words-listed l at k zero h = refl
-words-listed l at k (suc n) h =
-    let next : suc (at + k) ≡ at + suc k = omega arith in
-    ap (take (suc n)) (drop-cons l (at + k) 0 (omega arith))
-    ∙ ap (λ m. getD l (at + k) 0 ∷ take n (drop m l)) next
-    ∙ ap (λ r. getD l (at + k) 0 ∷ r) (words-listed l at (suc k) n (omega arith))
-
 module _ (l : List ℕ) (at : ℕ) where
-  listed : (n : ℕ) → at + n ≤ length l → take n (drop at l) ≡ map (λ i. getD l (at + i) 0) (numbers 0 n)
-  listed n h = ap (λ a. take n (drop a l)) (sym (add-zero at)) ∙ words-listed l at 0 n (omega arith)
-
   pub four-words : at + 4 ≤ length l → getD l at 0 ∷ getD l (at + 1) 0 ∷ getD l (at + 2) 0 ∷ getD l (at + 3) 0 ∷ [] ≡ take 4 (drop at l)
   unfolding numbers
-  four-words h = sym (listed 4 h ∙ ap (λ a. getD l a 0 ∷ getD l (at + 1) 0 ∷ getD l (at + 2) 0 ∷ getD l (at + 3) 0 ∷ []) (add-zero at))
+  four-words h = sym (listed l at 4 h ∙ ap (λ a. getD l a 0 ∷ getD l (at + 1) 0 ∷ getD l (at + 2) 0 ∷ getD l (at + 3) 0 ∷ []) (add-zero at))
 
-  pub eight-words : at + 8 ≤ length l → getD l at 0 ∷ getD l (at + 1) 0 ∷ getD l (at + 2) 0 ∷ getD l (at + 3) 0 ∷ getD l (at + 4) 0 ∷ getD l (at + 5) 0 ∷ getD l (at + 6) 0 ∷ getD l (at + 7) 0 ∷ [] ≡ take 8 (drop at l)
+  pub eight-words : at + 8 ≤ length l
+      → getD l at 0 ∷ getD l (at + 1) 0 ∷ getD l (at + 2) 0 ∷ getD l (at + 3) 0
+      ∷ getD l (at + 4) 0 ∷ getD l (at + 5) 0 ∷ getD l (at + 6) 0 ∷ getD l (at + 7) 0 ∷ [] ≡ take 8 (drop at l)
   unfolding numbers
   eight-words h =
-      sym (listed 8 h ∙ ap (λ a. getD l a 0 ∷ getD l (at + 1) 0 ∷ getD l (at + 2) 0 ∷ getD l (at + 3) 0 ∷ getD l (at + 4) 0 ∷ getD l (at + 5) 0 ∷ getD l (at + 6) 0 ∷ getD l (at + 7) 0 ∷ []) (add-zero at))
+      sym (listed l at 8 h
+      ∙ ap (λ a. getD l a 0 ∷ getD l (at + 1) 0 ∷ getD l (at + 2) 0 ∷ getD l (at + 3) 0
+      ∷ getD l (at + 4) 0 ∷ getD l (at + 5) 0 ∷ getD l (at + 6) 0 ∷ getD l (at + 7) 0 ∷ []) (add-zero at))
 
 -- ---- a member's question
 
-module _ (table : List ℕ) (j : ℕ) (answers atoms : List ℕ) (row : Row (rowAt table j)) (a : answers ≡ take 4 (drop (16 * j + 2) table)) (b : atoms ≡ take 8 (drop (16 * j + 8) table)) where
+module _ (table : List ℕ) (j : ℕ) (answers atoms : List ℕ) (row : Row (rowAt table j)) (a : answers ≡ take 4 (drop (16 * j + 2) table))
+    (b : atoms ≡ take 8 (drop (16 * j + 8) table)) where
   count-there : (k : ℕ) → getD (rowAt table j) k 0 ≡ getD table (16 * j + k) 0
   count-there k = getD-drop (16 * j) table k 0
 
   -- the first words of those copied are the first words in the row
-  first-there : (n m k : ℕ) (words : List ℕ) → n ≤ m → words ≡ take m (drop (16 * j + k) table) → take n words ≡ take n (drop k (rowAt table j))
+  first-there : (n m k : ℕ) (words : List ℕ) → n ≤ m → words ≡ take m (drop (16 * j + k) table)
+      → take n words ≡ take n (drop k (rowAt table j))
   first-there n m k words h e = ap (take n) e ∙ take-take n m (drop (16 * j + k) table) h ∙ ap (take n) (sym (drop-drop k (16 * j) table))
 
   abbrev loadedQuery : QueryWords
@@ -61,13 +56,16 @@ module _ (table : List ℕ) (j : ℕ) (answers atoms : List ℕ) (row : Row (row
       let f = row .few-terms in
       let g = row .few-atoms in
       λ i. record {
-        answers = map (termOf 24) ((first-there (getD table (16 * j + 1) 0) 4 2 answers (omega arith) a ∙ ap (λ n. take n (drop 2 (rowAt table j))) (sym t)) i);
-        atoms = map (atomOf 24) ((first-there (getD table (16 * j + 6) 0) 8 8 atoms (omega arith) b ∙ ap (λ n. take n (drop 8 (rowAt table j))) (sym s)) i);
+        answers = map wordTerm ((first-there (getD table (16 * j + 1) 0) 4 2 answers (omega arith) a
+            ∙ ap (λ n. take n (drop 2 (rowAt table j))) (sym t)) i);
+        atoms = map wordAtom ((first-there (getD table (16 * j + 6) 0) 8 8 atoms (omega arith) b
+            ∙ ap (λ n. take n (drop 8 (rowAt table j))) (sym s)) i);
       }
 
   answer-word : TermWords answers
-  answer-word k = subst (λ l. getD l k 0 < 33554432) (sym a) (elim (decLt k 4) [
-    | yes h ↦ rw (getD-take 4 (drop (16 * j + 2) table) k 0 h, sym (drop-drop 2 (16 * j) table), getD-drop 2 (rowAt table j) k 0) (row .answer-words k h)
+  answer-word k = subst (λ l. getD l k 0 < wordTermBound) (sym a) (elim (decLt k 4) [
+    | yes h ↦ rw (getD-take 4 (drop (16 * j + 2) table) k 0 h, sym (drop-drop 2 (16 * j) table), getD-drop 2 (rowAt table j) k 0)
+        (row .answer-words k h)
     | no h ↦ rw (List·getD-eq-default (take 4 (drop (16 * j + 2) table)) 0 {n = k} (simp length-take (omega arith))) (lit< tt)
   ])
 

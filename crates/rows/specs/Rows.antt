@@ -5,12 +5,13 @@ use lib.ListN.{length, getD, drop}
 use Rattle.theory.specs.Lists.{_∈_, Unrepeated}
 use Rattle.theory.specs.Syntax.{var, terms, Member}
 use Rattle.words.specs.Words.{memberOf, stride}
+use Rattle.words.specs.Limits.{wordTermBound}
 
 -- the words of a member: the counts are in range, the answer words are terms, the variables are 0 to 31, and no atom stands twice
 pub record Row (row : List ℕ) : Type 0 where
   pub few-terms : getD row 1 0 ≤ 4
   pub few-atoms : getD row 6 0 ≤ 8
-  pub answer-words : (k : ℕ) → k < 4 → getD row (2 + k) 0 < 33554432
+  pub answer-words : (k : ℕ) → k < 4 → getD row (2 + k) 0 < wordTermBound
   pub variables : (v : ℕ) → var v ∈ terms (memberOf row .query) → v < 32
   pub distinct : Unrepeated (memberOf row .query .atoms)
 

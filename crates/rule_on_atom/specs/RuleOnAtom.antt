@@ -10,23 +10,22 @@ use Rattle.theory.specs.Lists.{guard}
 use Rattle.theory.specs.Syntax.{Term, var, Atom, concept, role, Basic, named, has, hasInverse, Rule, conceptInclusion, roleInclusion, Query}
 use Rattle.theory.specs.Rewriting.{fresh, rewriteAtom}
 use Rattle.theory.specs.Laws.Rules.{Within, rewrite-image}
-use Rattle.words.specs.Records.{field, basicOf, atomOf}
-use Rattle.words.specs.Words.{queryOf, Small}
+use Rattle.words.specs.Records.{leftForm, leftName, rightForm, rightName, basicOf}
+use Rattle.words.specs.Words.{queryOf, Small, wordAtom, LowAtom}
 use Rattle.words.specs.declared.QueryWords.{QueryWords}
-use Rattle.words.specs.LowVariables.{LowAtom}
 use Rattle.variables.specs.FreshVariable.{fresh-low}
 use Rattle.rule_on_atom.specs.declared.AtomFound.{AtomFound}
 
 -- the atom that was found, if one was
 abbrev pub atomFound : AtomFound → Option (Atom Term)
-atomFound r = guard (r .found) (atomOf 24 (r .atom))
+atomFound r = guard (r .found) (wordAtom (r .atom))
 
 -- the descriptions of a rule of kind 1
 abbrev pub leftOf : ℕ → Basic
-leftOf rule = basicOf (field 26 2 rule) (field 14 12 rule)
+leftOf rule = basicOf (leftForm rule) (leftName rule)
 
 abbrev pub rightOf : ℕ → Basic
-rightOf rule = basicOf (field 12 2 rule) (field 0 12 rule)
+rightOf rule = basicOf (rightForm rule) (rightName rule)
 
 -- whether the rule's right side has the atom's predicate, which is kind and number
 unfoldable pub names : Rule → Atom Term → Bool
@@ -56,9 +55,10 @@ pub made-within : (q : Query) (r : Rule) (a b : Atom Term) → some b ≡ rewrit
 made-within q r a b e = rewrite-image q q (λ t. t) (λ t. t) (λ t u. u) refl r a b (λ t m. refl) (sym e) .1
 
 -- so its variables are 0 to 31 where those of the atom before are
-pub made-low : (q : QueryWords) (r : Rule) (a w : ℕ) → Small q → some (atomOf 24 w) ≡ rewriteAtom (queryOf q) r (atomOf 24 a) → LowAtom a → LowAtom w
+pub made-low : (q : QueryWords) (r : Rule) (a w : ℕ) → Small q → some (wordAtom w) ≡ rewriteAtom (queryOf q) r (wordAtom a)
+    → LowAtom a → LowAtom w
 made-low q r a w s e low v m =
-    elim (made-within (queryOf q) r (atomOf 24 a) (atomOf 24 w) e (var v) m) [
+    elim (made-within (queryOf q) r (wordAtom a) (wordAtom w) e (var v) m) [
       | inl n ↦ low v n
       | inr d ↦ (let f : v ≡ fresh (queryOf q) = cc in omega (arith, fresh-low q s))
     ]

@@ -7,6 +7,11 @@ use words::first_term;
 use words::kind_of;
 use words::number_of;
 use words::role_word;
+use words::rules::left_form;
+use words::rules::left_name;
+use words::rules::right_form;
+use words::rules::right_name;
+use words::rules::rule_kind;
 use words::second_term;
 ghost use mathlib.Core.Path.{_≡_};
 ghost use mathlib.Core.Bool.{true, false};
@@ -15,9 +20,9 @@ ghost use lib.Dec.{eqb};
 ghost use Rattle.theory.specs.Lists.{pick, guard};
 ghost use Rattle.theory.specs.Syntax.{var, instance, oriented};
 ghost use Rattle.theory.specs.Rewriting.{bearer as bearerIn, rewriteAtom};
-ghost use Rattle.words.specs.Records.{field, basicOf, ruleOf, termOf, atomOf};
-ghost use Rattle.words.specs.Words.{queryOf, Small};
-ghost use Rattle.words.specs.LowVariables.{LowAtom};
+ghost use Rattle.words.specs.Records.{ruleKind, leftName, rightForm, basicOf, ruleIn};
+ghost use Rattle.words.specs.Words.{queryOf, Small, wordTerm, wordAtom, wordFirst, wordSecond, LowAtom};
+ghost use Rattle.words.specs.Limits.{nameBound, wordObjectBound, wordTermBound};
 ghost use Rattle.rule_on_atom.specs.RuleOnAtom.{atomFound, rightOf, names as namesIn};
 
 // An atom, if one was found.
@@ -44,10 +49,10 @@ fn nothing() -> AtomFound
 
 // The kind of the rule's right side: 0 for a concept, 1 for a role.
 fn right_kind(rule: u64) -> u64
-    ensures { λ r. ⌜ r ≡ pick (eqb (field 28 4 rule) 1) (pick (eqb (field 12 2 rule) 0) 0 1) 1 ⌝ }
+    ensures { λ r. ⌜ r ≡ pick (eqb (ruleKind rule) 1) (pick (eqb (rightForm rule) 0) 0 1) 1 ⌝ }
 {
-    if rule / 0x10000000 % 0x10 == 1 {
-        if rule / 0x1000 % 4 == 0 {
+    if rule_kind(rule) == 1 {
+        if right_form(rule) == 0 {
             return 0;
         }
     }
@@ -56,9 +61,9 @@ fn right_kind(rule: u64) -> u64
 
 // Whether the rule's right side has the atom's predicate. A rule whose right side has another makes nothing of the atom.
 pub fn names(rule: u64, a: u64) -> bool
-    ensures { λ r. ⌜ r ≡ namesIn (ruleOf rule) (atomOf 24 a) ⌝ }
+    ensures { λ r. ⌜ r ≡ namesIn (ruleIn rule) (wordAtom a) ⌝ }
 {
-    if rule % 0x1000 == number_of(a) {
+    if right_name(rule) == number_of(a) {
         right_kind(rule) == kind_of(a)
     } else {
         false
@@ -67,10 +72,11 @@ pub fn names(rule: u64, a: u64) -> bool
 
 // The term of which the atom says the right description of a rule of kind 1, if the other term is unbound.
 fn bearer(q: QueryWords, rule: u64, a: u64) -> TermFound
-    requires { ⌜ Small q × (field 28 4 rule ≡ 1) × (namesIn (ruleOf rule) (atomOf 24 a) ≡ true) ⌝ }
-    ensures { λ r. ⌜ (guard (r .found) (termOf 24 (r .term)) ≡ bearerIn (queryOf q) (rightOf rule) (atomOf 24 a)) × (r .term < 33554432) ⌝ }
+    requires { ⌜ Small q × (ruleKind rule ≡ 1) × (namesIn (ruleIn rule) (wordAtom a) ≡ true) ⌝ }
+    ensures { λ r. ⌜ (guard (r .found) (wordTerm (r .term)) ≡ bearerIn (queryOf q) (rightOf rule) (wordAtom a))
+        × (r .term < wordTermBound) ⌝ }
 {
-    let form = rule / 0x1000 % 4;
+    let form = right_form(rule);
     let t = first_term(a);
     let u = second_term(a);
     if form == 0 {
@@ -91,8 +97,8 @@ fn bearer(q: QueryWords, rule: u64, a: u64) -> TermFound
 
 // The word of the description of t, with the variable z where it says "something".
 fn instance_word(form: u64, number: u64, t: u64, z: u64) -> u64
-    requires { ⌜ (number < 4096) × (t < 33554432) × (z < 16777216) ⌝ }
-    ensures { λ r. ⌜ atomOf 24 r ≡ instance (basicOf form number) (termOf 24 t) (var z) ⌝ }
+    requires { ⌜ (number < nameBound) × (t < wordTermBound) × (z < wordObjectBound) ⌝ }
+    ensures { λ r. ⌜ wordAtom r ≡ instance (basicOf form number) (wordTerm t) (var z) ⌝ }
 {
     if form == 0 {
         concept_word(number, t)
@@ -107,17 +113,12 @@ fn instance_word(form: u64, number: u64, t: u64, z: u64) -> u64
 
 // What a rule of kind 1 makes of an atom of its right side's predicate.
 fn describe(q: QueryWords, rule: u64, a: u64) -> AtomFound
-    requires { ⌜ Small q × (field 28 4 rule ≡ 1) × (namesIn (ruleOf rule) (atomOf 24 a) ≡ true) ⌝ }
-    ensures { λ r. ⌜ (atomFound r ≡ rewriteAtom (queryOf q) (ruleOf rule) (atomOf 24 a)) × (LowAtom a → LowAtom (r .atom)) ⌝ }
+    requires { ⌜ Small q × (ruleKind rule ≡ 1) × (namesIn (ruleIn rule) (wordAtom a) ≡ true) ⌝ }
+    ensures { λ r. ⌜ (atomFound r ≡ rewriteAtom (queryOf q) (ruleIn rule) (wordAtom a)) × (LowAtom a → LowAtom (r .atom)) ⌝ }
 {
     let b = bearer(q, rule, a);
     if b.found {
-        let atom = instance_word(
-            rule / 0x4000000 % 4,
-            rule / 0x4000 % 0x1000,
-            b.term,
-            fresh(q),
-        );
+        let atom = instance_word(left_form(rule), left_name(rule), b.term, fresh(q));
         AtomFound { found: true, atom }
     } else {
         nothing()
@@ -126,12 +127,12 @@ fn describe(q: QueryWords, rule: u64, a: u64) -> AtomFound
 
 // The word of the left role of a rule of kind 2, with the atom's terms kept or exchanged.
 fn oriented_word(rule: u64, a: u64) -> u64
-    ensures { λ r. ⌜ atomOf 24 r ≡ oriented (eqb (field 12 2 rule) 1) (field 14 12 rule) (termOf 24 (field 25 25 a)) (termOf 24 (field 0 25 a)) ⌝ }
+    ensures { λ r. ⌜ wordAtom r ≡ oriented (eqb (rightForm rule) 1) (leftName rule) (wordTerm (wordFirst a)) (wordTerm (wordSecond a)) ⌝ }
 {
-    let left = rule / 0x4000 % 0x1000;
+    let left = left_name(rule);
     let t = first_term(a);
     let u = second_term(a);
-    if rule / 0x1000 % 4 == 1 {
+    if right_form(rule) == 1 {
         role_word(left, u, t)
     } else {
         role_word(left, t, u)
@@ -141,10 +142,10 @@ fn oriented_word(rule: u64, a: u64) -> u64
 // What the rule makes of an atom of the query, if it fits.
 pub fn rewrite_atom(q: QueryWords, rule: u64, a: u64) -> AtomFound
     requires { ⌜ Small q ⌝ }
-    ensures { λ r. ⌜ (atomFound r ≡ rewriteAtom (queryOf q) (ruleOf rule) (atomOf 24 a)) × (LowAtom a → LowAtom (r .atom)) ⌝ }
+    ensures { λ r. ⌜ (atomFound r ≡ rewriteAtom (queryOf q) (ruleIn rule) (wordAtom a)) × (LowAtom a → LowAtom (r .atom)) ⌝ }
 {
     if names(rule, a) {
-        if rule / 0x10000000 % 0x10 == 1 {
+        if rule_kind(rule) == 1 {
             describe(q, rule, a)
         } else {
             let atom = oriented_word(rule, a);

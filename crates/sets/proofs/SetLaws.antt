@@ -1,16 +1,17 @@
 -- What the operations on words do to the sets that the words hold.
 use mathlib.Core.Path.{_≡_, refl, sym, ap, _∙_, subst}
-use Prim.Native.Nat.{ℕ, zero, suc, _+_, _-_, _*_, _/_, _%_, _^_, _≤_, _<_, min, max}
+use Prim.Native.Nat.{ℕ, zero, suc, _+_, _-_, _*_, _/_, _%_, _^_, _≤_, _<_, max}
 use native.Mathlib.Nat.{one-mul, mod-eq-of-lt}
 use native.Mathlib.Omega.{arith}
-use mathlib.Core.Bool.{Bool, true, false, not, _&&_, _||_, and-true, and-false, or-comm}
+use mathlib.Core.Bool.{Bool, true, false, not, _||_, or-comm}
 use lib.Dec.{T, eqb, eqb·zero-suc, eqb·suc-zero, eqb·suc-suc}
 use lib.Pow.{pow-lt}
-use lib.Bits.{bitAnd, bitOr, and-step, or-step, and-shr, or-shr}
+use lib.Bits.{bitOr, or-step, or-shr}
 use lib.Count.{under, trailingZeros, trailing-le}
 use borrow.Author.Needs.{needs}
 use borrow.Author.Tests.{not-true, not-false}
-use Rattle.sets.specs.Sets.{holds, holds-zero, holds-suc, holds-none, holds-below}
+use Rattle.sets.specs.Sets.{holds}
+use Rattle.sets.specs.Laws.Digits.{holds-zero, holds-suc, holds-none}
 
 -- what holds of 0 and of 1 holds of every digit
 digit-cases : (P : ℕ → Type 0) → P 0 → P 1 → (d : ℕ) → d < 2 → P d
@@ -37,9 +38,6 @@ module _ (op on : ℕ → ℕ → ℕ) (test : Bool → Bool → Bool)
 
 pub holds-or : (a b u : ℕ) → holds (bitOr a b) u ≡ (holds a u || holds b u)
 holds-or = holds-op bitOr max _||_ or-shr or-step (omega arith, refl) (omega arith, refl) (omega arith, refl) (omega arith, refl)
-
-pub holds-and : (a b u : ℕ) → holds (bitAnd a b) u ≡ (holds a u && holds b u)
-holds-and = holds-op bitAnd min _&&_ and-shr and-step (omega arith, refl) (omega arith, refl) (omega arith, refl) (omega arith, refl)
 
 -- ---- a word with one digit 1
 
@@ -104,17 +102,6 @@ with-holds set v h u =
     ap (λ n. holds (bitOr set n) u) (shifted-one v h) ∙ holds-or set (2 ^ v) u ∙ or-comm (holds set u) (holds (2 ^ v) u)
     ∙ ap (λ b. b || holds set u) (holds-one v u)
 
--- the second test counts only where the first passes
-in-both : (x y b : Bool) → (T b → x ≡ y) → (b && x) ≡ (y && b)
-in-both x y true f = f tt ∙ sym (and-true y)
-in-both x y false f = sym (and-false y)
-
-pub without-holds : (set v : ℕ) → set < 4294967296 → v < 32 → (u : ℕ) → holds (bitAnd set (4294967295 - 1 * 2 ^ v % 4294967296)) u ≡ (not (eqb u v) && holds set u)
-without-holds set v s h u =
-    ap (λ n. holds (bitAnd set (4294967295 - n)) u) (shifted-one v h) ∙ holds-and set (4294967295 - 2 ^ v) u
-    ∙ in-both (holds (4294967295 - 2 ^ v) u) (not (eqb u v)) (holds set u)
-    (λ t. holds-complement 32 (2 ^ v) u (pow-lt h) (holds-below 32 s t) ∙ ap not (holds-one v u))
-
 pub below-lowest : (set : ℕ) → set < 4294967296 → (u : ℕ) → u < trailingZeros 32 (4294967295 - set) → T (holds set u)
 below-lowest set s u l =
     let h : trailingZeros 32 (4294967295 - set) ≤ 32 = trailing-le 32 (4294967295 - set) in
@@ -125,4 +112,4 @@ lowest-not set s l t =
     let r = trailingZeros 32 (4294967295 - set) in
     subst T (not-true (holds set r) (sym (holds-complement 32 set r s l) ∙ trailing-stops 32 (4294967295 - set) l)) t
 
-pub ruleset laws = (needs, trailing-le, digit-holds, with-holds, without-holds, below-lowest, lowest-not)
+pub ruleset laws = (needs, trailing-le, digit-holds, with-holds, below-lowest, lowest-not)

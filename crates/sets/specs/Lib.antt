@@ -1,3 +1,3 @@
--- Sets of numbers in a word, and the fresh variable of a question as the lowest number that is missing in one.
+-- Sets of numbers in a word.
 pub mod Sets
-pub mod Fresh
+pub mod Laws

@@ -1,6 +1,6 @@
 // Sets of numbers below 32, each a word of 32 bits: a number is in the set where its binary digit is 1.
 ghost use mathlib.Core.Path.{_≡_};
-ghost use mathlib.Core.Bool.{not, _&&_, _||_};
+ghost use mathlib.Core.Bool.{_||_};
 ghost use Prim.Native.Nat.{ℕ, _≤_, _<_};
 ghost use lib.Dec.{T, eqb};
 ghost use Rattle.sets.specs.Sets.{holds};
@@ -19,14 +19,6 @@ pub fn with(set: u32, v: u32) -> u32
     ensures { λ r. ⌜ ((u : ℕ) → holds r u ≡ (eqb u v || holds set u)) ⌝ }
 {
     set | (1 << v)
-}
-
-// The set with v taken out.
-pub fn without(set: u32, v: u32) -> u32
-    requires { ⌜ v < 32 ⌝ }
-    ensures { λ r. ⌜ ((u : ℕ) → holds r u ≡ (not (eqb u v) && holds set u)) ⌝ }
-{
-    set & !(1 << v)
 }
 
 // The lowest number that is not in the set; 32 where all numbers below 32 are.

@@ -1,39 +1,42 @@
 -- 01's sheets taken apart into records, before reciprocal names are read; what a record says is in the crate `words`
--- (specs/Records.antt). w is the width of an object's number: 16 on the sheets.
+-- (specs/Records.antt). w is the width of an object's number.
 use Prim.Native.Nat.{ℕ, zero, suc, _+_, _*_, _/_, _%_}
-use mathlib.Core.List.{List, map}
+use mathlib.Core.List.{List, map, flatMap}
 use lib.ListN.{length, getD}
-use Rattle.theory.specs.Lists.{numbers}
+use Rattle.theory.specs.Lists.{toList, numbers}
 use Rattle.theory.specs.Syntax.{Rule, Query, Member, UCQ, Fact}
+use Rattle.words.specs.Limits.{ruleBytes, stepBytes, countBytes, answerBytes, recordBytes}
 use Rattle.words.specs.Records.{ruleOf, termOf, atomOf, factOf, stepOf}
 use Rattle.sheets.specs.Bits.{numberAt}
 
--- ---- rules, of 4 bytes each
+-- ---- records of one size, as numbers
 
--- the rule records of a sheet, as numbers
-unfoldable pub ruleRecords : List ℕ → List ℕ
+-- n of them, one after another from byte `from` on
+unfoldable pub recordsFrom : ℕ → List ℕ → ℕ → ℕ → List ℕ
 unfolding numbers numberAt
-ruleRecords s = map (λ i. numberAt s (4 * i) 4) (numbers 0 (length s / 4))
+recordsFrom size s from n = map (λ i. numberAt s (from + size * i) size) (numbers 0 n)
 
+-- a whole sheet of them
+abbrev pub sheetRecords : ℕ → List ℕ → List ℕ
+sheetRecords size s = recordsFrom size s 0 (length s / size)
+
+-- ---- rules
+
+abbrev pub ruleRecords : List ℕ → List ℕ
+ruleRecords s = sheetRecords ruleBytes s
+
+-- what the records say, in order; one that is no rule says nothing, and 2 refuses the sheet
 unfoldable pub rulesOf : List ℕ → List Rule
-unfolding ruleOf ruleRecords
-rulesOf s = map ruleOf (ruleRecords s)
+unfolding ruleOf recordsFrom toList flatMap
+rulesOf s = flatMap (λ x. toList (ruleOf x)) (ruleRecords s)
 
 -- ---- facts
 
--- the bytes of an answer term, "7 zero bits, then a term", and of an atom or a fact
-abbrev pub answerBytes : ℕ → ℕ
-answerBytes w = (w + 8) / 8
-
-abbrev pub recordBytes : ℕ → ℕ
-recordBytes w = (2 * w + 16) / 8
-
-unfoldable pub factRecords : ℕ → List ℕ → List ℕ
-unfolding numbers numberAt
-factRecords w s = map (λ i. numberAt s (recordBytes w * i) (recordBytes w)) (numbers 0 (length s / recordBytes w))
+abbrev pub factRecords : ℕ → List ℕ → List ℕ
+factRecords w s = sheetRecords (recordBytes w) s
 
 unfoldable pub factsOf : ℕ → List ℕ → List Fact
-unfolding factOf factRecords
+unfolding factOf recordsFrom
 factsOf w s = map (factOf w) (factRecords w s)
 
 -- ---- questions: "answer-term count 4 bits (0 to 4), atom count 4 bits (1 to 8), then answer terms of 24 bits and atoms of 48
@@ -48,32 +51,36 @@ atomCount s at = getD s at 0 % 16
 abbrev pub questionLength : ℕ → List ℕ → ℕ → ℕ
 questionLength w s at = 1 + answerBytes w * termCount s at + recordBytes w * atomCount s at
 
-unfoldable pub answerRecords : ℕ → List ℕ → ℕ → List ℕ
-unfolding numbers numberAt
-answerRecords w s at = map (λ i. numberAt s (at + 1 + answerBytes w * i) (answerBytes w)) (numbers 0 (termCount s at))
+abbrev pub answerRecords : ℕ → List ℕ → ℕ → List ℕ
+answerRecords w s at = recordsFrom (answerBytes w) s (at + 1) (termCount s at)
 
-unfoldable pub atomRecords : ℕ → List ℕ → ℕ → List ℕ
-unfolding numbers numberAt
-atomRecords w s at =
-    map (λ i. numberAt s (at + 1 + answerBytes w * termCount s at + recordBytes w * i) (recordBytes w)) (numbers 0 (atomCount s at))
+abbrev pub atomRecords : ℕ → List ℕ → ℕ → List ℕ
+atomRecords w s at = recordsFrom (recordBytes w) s (at + 1 + answerBytes w * termCount s at) (atomCount s at)
 
 unfoldable pub queryAt : ℕ → List ℕ → ℕ → Query
-unfolding termOf atomOf answerRecords atomRecords
+unfolding termOf atomOf recordsFrom
 queryAt w s at = record { answers = map (termOf w) (answerRecords w s at); atoms = map (atomOf w) (atomRecords w s at) }
 
 -- ---- unions: "member count 16 bits (1 to 512). Each member is a step of 32 bits, then a question."
 
 abbrev pub memberCount : List ℕ → ℕ
-memberCount s = numberAt s 0 2
+memberCount s = numberAt s 0 countBytes
 
 -- where member j begins, each member being as long as its question's counts say
 unfoldable pub memberStart : ℕ → List ℕ → ℕ → ℕ
-memberStart w s zero = 2
-memberStart w s (suc j) = memberStart w s j + 4 + questionLength w s (memberStart w s j + 4)
+memberStart w s zero = countBytes
+memberStart w s (suc j) = memberStart w s j + stepBytes + questionLength w s (memberStart w s j + stepBytes)
+
+-- where its question begins, behind the step; member 0's is the first
+abbrev pub questionStart : ℕ → List ℕ → ℕ → ℕ
+questionStart w s j = memberStart w s j + stepBytes
+
+abbrev pub firstQuestion : ℕ
+firstQuestion = countBytes + stepBytes
 
 unfoldable pub memberAt : ℕ → List ℕ → ℕ → Member
 unfolding stepOf queryAt memberStart
-memberAt w s j = record { step = stepOf (numberAt s (memberStart w s j) 4); query = queryAt w s (memberStart w s j + 4) }
+memberAt w s j = record { step = stepOf (numberAt s (memberStart w s j) stepBytes); query = queryAt w s (questionStart w s j) }
 
 unfoldable pub unionOf : ℕ → List ℕ → UCQ
 unfolding memberAt numbers numberAt

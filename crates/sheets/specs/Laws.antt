@@ -1,11 +1,13 @@
 -- What the refusals, reciprocal names and the one list mean, and that reading and packing undo each other.
 pub mod Tests
+pub mod RecordLoops
 pub mod PartnerLaws
 pub mod RuleRefusals
 pub mod QuestionRefusals
 pub mod UnionRefusals
 pub mod FactRefusals
 pub mod OneList
+pub mod Numbers
 pub mod PackingBytes
 pub mod PackingNumbers
 pub mod PackingSheets

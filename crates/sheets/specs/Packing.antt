@@ -6,7 +6,7 @@ use mathlib.Core.List.{List, [], _∷_, _++_, map, flatMap}
 use lib.ListN.{length}
 use Rattle.theory.specs.Lists.{_∈_, pick}
 use Rattle.theory.specs.Syntax.{Term, var, const, Atom, concept, role, Basic, named, has, hasInverse, Rule, conceptInclusion, roleInclusion, Query, Step, Member, UCQ, Fact}
-use Rattle.sheets.specs.Format.{answerBytes, recordBytes}
+use Rattle.words.specs.Limits.{variableBound, nameBound, mostRules, mostTerms, mostAtoms, mostMembers, mostFacts, stepBytes, countBytes, answerBytes, recordBytes}
 
 -- ---- bytes and bits: "packed with the most significant bit first"
 
@@ -107,11 +107,11 @@ stepNumber s = fieldsNumber (stepFields s)
 
 unfoldable pub packMember : ℕ → Member → List ℕ
 unfolding bytesOf fieldsNumber packQuery
-packMember w m = bytesOf 4 (stepNumber (m .step)) ++ packQuery w (m .query)
+packMember w m = bytesOf stepBytes (stepNumber (m .step)) ++ packQuery w (m .query)
 
 unfoldable pub packUnion : ℕ → UCQ → List ℕ
 unfolding bytesOf packMember flatMap
-packUnion w union = bytesOf 2 (length union) ++ flatMap (packMember w) union
+packUnion w union = bytesOf countBytes (length union) ++ flatMap (packMember w) union
 
 -- ---- which values a sheet can say
 
@@ -124,7 +124,7 @@ abbrev pub IsByte : ℕ → Type 0
 IsByte b = b < 256
 
 abbrev pub IsName : ℕ → Type 0
-IsName n = n < 4096
+IsName n = n < nameBound
 
 abbrev pub RuleInRange : Rule → Type 0
 RuleInRange (conceptInclusion left right) = IsName (nameOf left) × IsName (nameOf right)
@@ -132,11 +132,11 @@ RuleInRange (roleInclusion P exchanged Q) = IsName P × IsName Q
 
 -- "A sheet has 0 to 512 rules."
 abbrev pub RulesInRange : List Rule → Type 0
-RulesInRange rules = (length rules ≤ 512) × All RuleInRange rules
+RulesInRange rules = (length rules ≤ mostRules) × All RuleInRange rules
 
 -- "Variables are 0 to 31, objects 0 to 65,535."
 abbrev pub TermInRange : ℕ → Term → Type 0
-TermInRange w (var v) = v < 32
+TermInRange w (var v) = v < variableBound
 TermInRange w (const c) = c < 2 ^ w
 
 -- an atom's number and its arguments are in range
@@ -148,9 +148,9 @@ abbrev pub AtomInRange : ℕ → Atom Term → Type 0
 AtomInRange w = AtomOver (TermInRange w)
 
 pub record QueryInRange (w : ℕ) (q : Query) : Type 0 where
-  pub few-answers : length (q .answers) ≤ 4
+  pub few-answers : length (q .answers) ≤ mostTerms
   pub some-atom : 1 ≤ length (q .atoms)
-  pub few-atoms : length (q .atoms) ≤ 8
+  pub few-atoms : length (q .atoms) ≤ mostAtoms
   pub answers-in : All (TermInRange w) (q .answers)
   pub atoms-in : All (AtomInRange w) (q .atoms)
 
@@ -161,14 +161,14 @@ abbrev pub MemberInRange : ℕ → Member → Type 0
 MemberInRange w m = StepInRange (m .step) × QueryInRange w (m .query)
 
 abbrev pub UnionInRange : ℕ → UCQ → Type 0
-UnionInRange w union = (1 ≤ length union) × (length union ≤ 512) × All (MemberInRange w) union
+UnionInRange w union = (1 ≤ length union) × (length union ≤ mostMembers) × All (MemberInRange w) union
 
 abbrev pub FactInRange : ℕ → Fact → Type 0
 FactInRange w = AtomOver (λ o. o < 2 ^ w)
 
 -- "A sheet has 0 to 10,000 facts"
 abbrev pub FactsInRange : ℕ → List Fact → Type 0
-FactsInRange w facts = (length facts ≤ 10000) × All (FactInRange w) facts
+FactsInRange w facts = (length facts ≤ mostFacts) × All (FactInRange w) facts
 
 -- an object's number fills whole bytes, at least one, as at the widths 16 and 24
 abbrev pub WholeBytes : ℕ → Type 0

@@ -1,5 +1,5 @@
 -- Replacements in words: what the code computes is what the definitions say.
-use mathlib.Core.Path.{_≡_, refl, sym, ap, _∙_, subst, fun-ext}
+use mathlib.Core.Path.{_≡_, refl, sym, ap, ap₂, _∙_, subst, fun-ext}
 use mathlib.Core.Logic.{inl, inr}
 use Prim.Native.Nat.{ℕ, zero, suc, _+_, _%_, _≤_, _<_}
 use native.Mathlib.Decide.{ℕ-discrete, decLt}
@@ -11,43 +11,52 @@ use lib.Dec.{T, eqb, ltb, ltb→lt, lit<}
 use lib.ListN.{length, getD, set}
 use lib.Seq.{getD-set-same, getD-set-other}
 use borrow.Author.Needs.{needs}
+use Rattle.theory.specs.Laws.Spellings.{same-comm, spellings}
 use borrow.Author.Tests.{eq-eqb, ne-eqb, lt-ltb, le-ltb, le-leb, lt-leb}
 use Rattle.theory.specs.Lists.{_∈_, pick, guard, andThen}
 use Rattle.theory.specs.Syntax.{Term, var, const, concept, role, args, mapAtom, subst-term}
 use Rattle.theory.specs.Rewriting.{replace, after, join, bind, unify}
 use Rattle.theory.specs.Laws.Options.{same-test, three-ways, T-and, T-eqb, is-true}
-use Rattle.words.specs.Records.{field, termOf, atomOf}
-use Rattle.words.specs.LowVariables.{LowAtom, concept-atom, role-atom, first-low, second-low, variable-word, object-high, object-term}
-use Rattle.substitution.specs.Substitutions.{SmallTerm, Sound, substOf, boundOf}
+use Rattle.words.specs.Limits.{wordObjectBound, wordTermBound}
+use Rattle.words.specs.Words.{wordTerm, wordAtom, wordKind, wordName, wordFirst, wordSecond, LowAtom, firstOf}
+use Rattle.words.specs.Laws.LowVariables.{concept-atom, role-atom, first-low, second-low}
+use Rattle.words.specs.Laws.LowVariables.{variable-word, object-high, object-term}
+use Rattle.substitution.specs.Substitutions.{SmallTerm, Sound, substOf, unifierOf}
 use Rattle.substitution.specs.declared.Substitution.{Substitution}
-use Rattle.substitution.specs.declared.Bound.{Bound}
 
 -- ---- words of terms: variables are below 32, objects are not
 
-low-word : (w : ℕ) → w < 32 → termOf 24 w ≡ var w
+low-word : (w : ℕ) → w < 32 → wordTerm w ≡ var w
 low-word w h = variable-word w (omega arith)
 
 pub small-variable : (w : ℕ) → w < 32 → SmallTerm w
-small-variable w h = record { word = omega arith; low = λ v e. (let d : w ≡ v = (let f : var v ≡ var w = e ∙ low-word w h in cc) in omega arith) }
+small-variable w h = record {
+  word = omega arith;
+  low = λ v e. (let f : var v ≡ var w = e ∙ low-word w h in let d : w ≡ v = cc in omega arith);
+}
 
 -- what holds of every variable and every object
-by-word : (P : Term → Type 0) (w : ℕ) → SmallTerm w → (w < 32 → P (var w)) → (32 ≤ w → P (const (w % 16777216))) → P (termOf 24 w)
-by-word P w s v c = elim (decLt w 32) [ yes h ↦ subst P (sym (low-word w h)) (v h) | no h ↦ (let l : 32 ≤ w = omega arith in subst P (sym (object-term w (s .low) l)) (c l)) ]
+by-word : (P : Term → Type 0) (w : ℕ) → SmallTerm w → (w < 32 → P (var w)) → (32 ≤ w → P (const (w % wordObjectBound))) → P (wordTerm w)
+by-word P w s v c =
+    elim (decLt w 32) [
+      | yes h ↦ subst P (sym (low-word w h)) (v h)
+      | no h ↦ (let l : 32 ≤ w = omega arith in subst P (sym (object-term w (s .low) l)) (c l))
+    ]
 
 -- ---- one variable replaced in a term
 
 module _ (w v t : ℕ) where
-  pub replaced-there : w ≡ v → v < 32 → termOf 24 t ≡ subst-term (replace v (termOf 24 t)) (termOf 24 w)
+  pub replaced-there : w ≡ v → v < 32 → wordTerm t ≡ subst-term (replace v (wordTerm t)) (wordTerm w)
   unfolding replace
   replaced-there e h = sym (simp (low-word w (omega arith), eq-eqb w v e))
 
-  pub kept-elsewhere : (w ≡ v → ⊥) → SmallTerm w → termOf 24 w ≡ subst-term (replace v (termOf 24 t)) (termOf 24 w)
+  pub kept-elsewhere : (w ≡ v → ⊥) → SmallTerm w → wordTerm w ≡ subst-term (replace v (wordTerm t)) (wordTerm w)
   unfolding replace
-  kept-elsewhere e s = by-word (λ x. x ≡ subst-term (replace v (termOf 24 t)) x) w s (λ h. sym (simp (ne-eqb w v e))) (λ h. refl)
+  kept-elsewhere e s = by-word (λ x. x ≡ subst-term (replace v (wordTerm t)) x) w s (λ h. sym (simp (ne-eqb w v e))) (λ h. refl)
 
 -- ---- places
 
-pub place : (s : Substitution) (u : ℕ) → u < 32 → substOf s u ≡ termOf 24 (getD (s .to) u 0)
+pub place : (s : Substitution) (u : ℕ) → u < 32 → substOf s u ≡ wordTerm (getD (s .to) u 0)
 unfolding substOf
 place s u h = simp (lt-ltb u 32 h)
 
@@ -59,10 +68,10 @@ pub small-place : (s : Substitution) (k : ℕ) → Sound s → SmallTerm (getD (
 small-place s k h = h k
 
 module _ (s : Substitution) (t : ℕ) where
-  pub applied : t < 32 → termOf 24 (getD (s .to) t 0) ≡ subst-term (substOf s) (termOf 24 t)
+  pub applied : t < 32 → wordTerm (getD (s .to) t 0) ≡ subst-term (substOf s) (wordTerm t)
   applied h = sym (simp (low-word t h) (place s t h))
 
-  pub object-applied : SmallTerm t → 32 ≤ t → termOf 24 t ≡ subst-term (substOf s) (termOf 24 t)
+  pub object-applied : SmallTerm t → 32 ≤ t → wordTerm t ≡ subst-term (substOf s) (wordTerm t)
   object-applied m h = sym (simp (object-term t (m .low) h))
 
 -- ---- a loop over the places
@@ -83,21 +92,29 @@ each-stored P (x ∷ xs) zero w h p (suc k) = h (suc k)
 each-stored P (x ∷ xs) (suc i) w h p zero = h zero
 each-stored P (x ∷ xs) (suc i) w h p (suc k) = each-stored P xs i w (λ k. h (suc k)) p k
 
-module _ (l : List ℕ) (i w : ℕ) where
-  pub sound-stored : Sound (record { to = l }) → SmallTerm w → Sound (record { to = set l i w })
+module _ (l : List ℕ) (b : Bool) (i w : ℕ) where
+  -- the replacement before the word was stored, and after
+  abbrev old : Substitution
+  old = record { to = l; unified = b }
+
+  abbrev new : Substitution
+  new = record { to = set l i w; unified = b }
+
+  pub sound-stored : Sound old → SmallTerm w → Sound new
   sound-stored h p = each-stored SmallTerm l i w h p
 
-  stored-elsewhere : (u : ℕ) → (u ≡ i → ⊥) → substOf (record { to = set l i w }) u ≡ substOf (record { to = l }) u
+  stored-elsewhere : (u : ℕ) → (u ≡ i → ⊥) → substOf new u ≡ substOf old u
   unfolding substOf
-  stored-elsewhere u d = ap (λ x. pick (ltb u 32) (termOf 24 x) (var u)) (getD-set-other l i u w 0 d)
+  stored-elsewhere u d = ap (λ x. pick (ltb u 32) (wordTerm x) (var u)) (getD-set-other l i u w 0 d)
 
-  stored : (f g : ℕ → Term) → length l ≡ 32 → i < 32 → substOf (record { to = l }) ≡ upTo i f g → termOf 24 w ≡ f i → substOf (record { to = set l i w }) ≡ upTo (i + 1) f g
+  stored : (f g : ℕ → Term) → length l ≡ 32 → i < 32 → substOf old ≡ upTo i f g → wordTerm w ≡ f i → substOf new ≡ upTo (i + 1) f g
   unfolding upTo
   stored f g n h e d = fun-ext (λ u. elim (three-ways u i) [
     | inl m ↦ stored-elsewhere u (λ k. omega arith) ∙ ap (λ σ. σ u) e ∙ simp (lt-ltb u i m) (sym (simp (lt-ltb u (i + 1) (omega arith))))
-    | inr (inl m) ↦ ap (substOf (record { to = set l i w })) m ∙ place (record { to = set l i w }) i h
-        ∙ ap (termOf 24) (getD-set-same l i w 0 (omega arith)) ∙ d ∙ ap f (sym m) ∙ sym (simp (lt-ltb u (i + 1) (omega arith)))
-    | inr (inr m) ↦ stored-elsewhere u (λ k. omega arith) ∙ ap (λ σ. σ u) e ∙ simp (le-ltb u i (omega arith)) (sym (simp (le-ltb u (i + 1) (omega arith))))
+    | inr (inl m) ↦ ap (substOf new) m ∙ place new i h ∙ ap wordTerm (getD-set-same l i w 0 (omega arith)) ∙ d ∙ ap f (sym m)
+        ∙ sym (simp (lt-ltb u (i + 1) (omega arith)))
+    | inr (inr m) ↦ stored-elsewhere u (λ k. omega arith) ∙ ap (λ σ. σ u) e
+        ∙ simp (le-ltb u i (omega arith)) (sym (simp (le-ltb u (i + 1) (omega arith))))
   ])
 
 -- all 32 places are done; other variables are kept
@@ -118,100 +135,123 @@ each-below [] t k = lit< tt
 each-below (w ∷ ws) t zero = ltb→lt w 32 (T-and (ltb w 32) (below32 ws) .0 t .0)
 each-below (w ∷ ws) t (suc k) = each-below ws (T-and (ltb w 32) (below32 ws) .0 t .1) k
 
-pub sound-below : (l : List ℕ) → T (below32 l) → Sound (record { to = l })
-sound-below l t k = small-variable (getD l k 0) (each-below l t k)
+pub sound-below : (l : List ℕ) (b : Bool) → T (below32 l) → Sound (record { to = l; unified = b })
+sound-below l b t k = small-variable (getD l k 0) (each-below l t k)
 
 -- the replacement that changes nothing
-module _ (l : List ℕ) (i : ℕ) (g : ℕ → Term) (e : substOf (record { to = l }) ≡ upTo i var g) where
-  pub variable-stored : length l ≡ 32 → i < 32 → substOf (record { to = set l i i }) ≡ upTo (i + 1) var g
-  variable-stored n h = stored l i i var g n h e (low-word i h)
+module _ (l : List ℕ) (b : Bool) (i : ℕ) (g : ℕ → Term) (e : substOf (record { to = l; unified = b }) ≡ upTo i var g) where
+  pub variable-stored : length l ≡ 32 → i < 32 → substOf (record { to = set l i i; unified = b }) ≡ upTo (i + 1) var g
+  variable-stored n h = stored l b i i var g n h e (low-word i h)
 
-  pub identity-done : 32 ≤ i → substOf (record { to = l }) ≡ var
-  identity-done h = done (record { to = l }) i var g e h (λ u m. refl)
+  pub identity-done : 32 ≤ i → substOf (record { to = l; unified = b }) ≡ var
+  identity-done h = done (record { to = l; unified = b }) i var g e h (λ u m. refl)
 
 -- one variable replaced at all places
-module _ (s s₀ : Substitution) (v t i : ℕ) (e : substOf s ≡ upTo i (after (substOf s₀) v (termOf 24 t)) (substOf s₀)) where
-  pub after-stored : (w : ℕ) → length (s .to) ≡ 32 → i < 32 → termOf 24 w ≡ subst-term (replace v (termOf 24 t)) (termOf 24 (getD (s .to) i 0)) → substOf (record { to = set (s .to) i w }) ≡ upTo (i + 1) (after (substOf s₀) v (termOf 24 t)) (substOf s₀)
+module _ (s s₀ : Substitution) (v t i : ℕ) (e : substOf s ≡ upTo i (after (substOf s₀) v (wordTerm t)) (substOf s₀)) where
+  pub after-stored : (w : ℕ) → length (s .to) ≡ 32 → i < 32
+      → wordTerm w ≡ subst-term (replace v (wordTerm t)) (wordTerm (getD (s .to) i 0))
+      → substOf (record { to = set (s .to) i w; unified = s .unified }) ≡ upTo (i + 1) (after (substOf s₀) v (wordTerm t)) (substOf s₀)
   unfolding after upTo
   after-stored w n h d =
-      let before : termOf 24 (getD (s .to) i 0) ≡ substOf s₀ i = sym (place s i h) ∙ ap (λ σ. σ i) e ∙ simp (le-ltb i i (omega arith)) in
-      stored (s .to) i w (after (substOf s₀) v (termOf 24 t)) (substOf s₀) n h e (d ∙ ap (subst-term (replace v (termOf 24 t))) before)
+      let before : wordTerm (getD (s .to) i 0) ≡ substOf s₀ i = sym (place s i h) ∙ ap (λ σ. σ i) e ∙ simp (le-ltb i i (omega arith)) in
+      stored (s .to) (s .unified) i w (after (substOf s₀) v (wordTerm t)) (substOf s₀) n h e
+      (d ∙ ap (subst-term (replace v (wordTerm t))) before)
 
-  pub after-done : v < 32 → 32 ≤ i → substOf s ≡ after (substOf s₀) v (termOf 24 t)
+  pub after-done : v < 32 → 32 ≤ i → substOf s ≡ after (substOf s₀) v (wordTerm t)
   unfolding after replace
   after-done h m =
-      done s i (after (substOf s₀) v (termOf 24 t)) (substOf s₀) e m
-      (λ u n. ap (subst-term (replace v (termOf 24 t))) (no-place s₀ u n) ∙ simp (ne-eqb u v (λ k. omega arith)))
+      done s i (after (substOf s₀) v (wordTerm t)) (substOf s₀) e m
+      (λ u n. ap (subst-term (replace v (wordTerm t))) (no-place s₀ u n) ∙ simp (ne-eqb u v (λ k. omega arith)))
 
 -- ---- two terms made equal
 
-pub bound : (r : Substitution) (σ : ℕ → Term) → substOf r ≡ σ → boundOf (record { ok = true; substitution = r }) ≡ some σ
-unfolding boundOf
-bound r σ e = ap some e
+-- a replacement that did not fail
+found : (r : Substitution) → r .unified ≡ true → unifierOf r ≡ some (substOf r)
+unfolding unifierOf
+found r y = simp y
 
-module _ (σ : ℕ → Term) (s t : ℕ) (r : Bound) where
-  pub higher-first : s < 32 → t < s → boundOf r ≡ some (after σ s (termOf 24 t)) → boundOf r ≡ join σ (termOf 24 s) (termOf 24 t)
+module _ (σ : Substitution) (s t : ℕ) (r : Substitution) (y : σ .unified ≡ true) (k : r .unified ≡ σ .unified) where
+  -- one variable was replaced, as the definition says
+  replaced : (v : ℕ) (x : Term) → substOf r ≡ after (substOf σ) v x
+      → some (after (substOf σ) v x) ≡ join (substOf σ) (wordTerm s) (wordTerm t)
+      → unifierOf r ≡ join (substOf σ) (wordTerm s) (wordTerm t)
+  replaced v x e d = found r (k ∙ y) ∙ ap some e ∙ d
+
+  pub higher-first : s < 32 → t < s → substOf r ≡ after (substOf σ) s (wordTerm t)
+      → unifierOf r ≡ join (substOf σ) (wordTerm s) (wordTerm t)
   unfolding join
-  higher-first h l e = e ∙ sym (simp (low-word s h, low-word t (omega arith), lt-leb s t l))
+  higher-first h l e = replaced s (wordTerm t) e (sym (simp (low-word s h, low-word t (omega arith), lt-leb s t l)))
 
-  pub higher-second : s < 32 → t < 32 → s ≤ t → boundOf r ≡ some (after σ t (termOf 24 s)) → boundOf r ≡ join σ (termOf 24 s) (termOf 24 t)
+  pub higher-second : s < 32 → t < 32 → s ≤ t → substOf r ≡ after (substOf σ) t (wordTerm s)
+      → unifierOf r ≡ join (substOf σ) (wordTerm s) (wordTerm t)
   unfolding join
-  higher-second h l m e = e ∙ sym (simp (low-word s h, low-word t l, le-leb s t m))
+  higher-second h l m e = replaced t (wordTerm s) e (sym (simp (low-word s h, low-word t l, le-leb s t m)))
 
-  pub object-first : SmallTerm s → 32 ≤ s → t < 32 → boundOf r ≡ some (after σ t (termOf 24 s)) → boundOf r ≡ join σ (termOf 24 s) (termOf 24 t)
+  pub object-first : SmallTerm s → 32 ≤ s → t < 32 → substOf r ≡ after (substOf σ) t (wordTerm s)
+      → unifierOf r ≡ join (substOf σ) (wordTerm s) (wordTerm t)
   unfolding join
-  object-first m h l e = e ∙ sym (simp (object-term s (m .low) h, low-word t l))
+  object-first m h l e = replaced t (wordTerm s) e (sym (simp (object-term s (m .low) h, low-word t l)))
 
-  pub object-second : SmallTerm t → s < 32 → 32 ≤ t → boundOf r ≡ some (after σ s (termOf 24 t)) → boundOf r ≡ join σ (termOf 24 s) (termOf 24 t)
+  pub object-second : SmallTerm t → s < 32 → 32 ≤ t → substOf r ≡ after (substOf σ) s (wordTerm t)
+      → unifierOf r ≡ join (substOf σ) (wordTerm s) (wordTerm t)
   unfolding join
-  object-second m h l e = e ∙ sym (simp (low-word s h, object-term t (m .low) l))
+  object-second m h l e = replaced s (wordTerm t) e (sym (simp (low-word s h, object-term t (m .low) l)))
 
-pub two-objects : (r : Substitution) (s t : ℕ) → SmallTerm s → SmallTerm t → 32 ≤ s → 32 ≤ t → boundOf (record { ok = eqb s t; substitution = r }) ≡ join (substOf r) (termOf 24 s) (termOf 24 t)
-unfolding boundOf join
-two-objects r s t m n h l =
-    let far : 16777216 ≤ s = object-high s (m .low) h in
-    let far′ : 16777216 ≤ t = object-high t (n .low) l in
-    ap (λ b. guard b (substOf r))
-    (same-test (eqb s t) (eqb (s % 16777216) (t % 16777216)) (
-      λ e. T-eqb (s % 16777216) (t % 16777216) .1 (ap (λ w. w % 16777216) (T-eqb s t .0 e)),
-      λ e. T-eqb s t .1 (omega (arith, T-eqb (s % 16777216) (t % 16777216) .0 e)),
+pub two-objects : (σ : Substitution) (s t : ℕ) (b : Bool) → SmallTerm s → SmallTerm t → 32 ≤ s → 32 ≤ t → b ≡ eqb s t
+    → unifierOf (record { to = σ .to; unified = b }) ≡ join (substOf σ) (wordTerm s) (wordTerm t)
+unfolding unifierOf substOf join
+two-objects σ s t b m n h l e =
+    let far : wordObjectBound ≤ s = object-high s (m .low) h in
+    let far′ : wordObjectBound ≤ t = object-high t (n .low) l in
+    ap (λ x. guard x (substOf σ)) e
+    ∙ ap (λ x. guard x (substOf σ))
+    (same-test (eqb s t) (eqb (s % wordObjectBound) (t % wordObjectBound)) (
+      λ e. T-eqb (s % wordObjectBound) (t % wordObjectBound) .1 (ap (λ w. w % wordObjectBound) (T-eqb s t .0 e)),
+      λ e. T-eqb s t .1 (omega (arith, T-eqb (s % wordObjectBound) (t % wordObjectBound) .0 e)),
     ))
     ∙ sym (simp (object-term s (m .low) h, object-term t (n .low) l))
 
-pub bound-applied : (σ : ℕ → Term) (s t x y : ℕ) (r : Bound) → termOf 24 x ≡ subst-term σ (termOf 24 s) → termOf 24 y ≡ subst-term σ (termOf 24 t) → boundOf r ≡ join σ (termOf 24 x) (termOf 24 y) → boundOf r ≡ bind σ (termOf 24 s) (termOf 24 t)
+-- what is bound next, where the replacement did not fail before
+module _ (s r : Substitution) (next : (ℕ → Term) → Option (ℕ → Term)) where
+  pub bound-next : s .unified ≡ true → unifierOf r ≡ next (substOf s) → unifierOf r ≡ andThen (unifierOf s) next
+  unfolding unifierOf
+  bound-next y h = h ∙ sym (simp y)
+
+  pub failed-before : s .unified ≡ false → unifierOf s ≡ andThen (unifierOf s) next
+  unfolding unifierOf
+  failed-before f = simp f
+
+pub bound : (σ : ℕ → Term) (s t x y : ℕ) (r : Substitution) → wordTerm x ≡ subst-term σ (wordTerm s)
+    → wordTerm y ≡ subst-term σ (wordTerm t)
+    → unifierOf r ≡ join σ (wordTerm x) (wordTerm y) → unifierOf r ≡ bind σ (wordTerm s) (wordTerm t)
 unfolding bind
-bound-applied σ s t x y r e d h = h ∙ simp (e, d)
-
-pub none-bound : (b : Bound) (f : (ℕ → Term) → Option (ℕ → Term)) → b .ok ≡ false → boundOf b ≡ andThen (boundOf b) f
-unfolding boundOf
-none-bound b f e = simp e
-
-pub then-bound : (b r : Bound) (f : (ℕ → Term) → Option (ℕ → Term)) → b .ok ≡ true → boundOf r ≡ f (substOf (b .substitution)) → boundOf r ≡ andThen (boundOf b) f
-unfolding boundOf
-then-bound b r f e h = h ∙ sym (simp e)
+bound σ s t x y r e d h = h ∙ simp (e, d)
 
 -- ---- the terms of an atom
 
 module _ (a f : ℕ) (h : LowAtom a) where
-  pub small-first : f ≡ field 25 25 a → f < 33554432 → SmallTerm f
+  pub small-first : f ≡ wordFirst a → f < wordTermBound → SmallTerm f
   small-first e l = record { word = l; low = first-low a f h e }
 
-  pub small-second : (k : ℕ) → k ≡ field 63 1 a → (k ≡ 0 → ⊥) → f ≡ field 0 25 a → f < 33554432 → SmallTerm f
+  pub small-second : (k : ℕ) → k ≡ wordKind a → (k ≡ 0 → ⊥) → f ≡ wordSecond a → f < wordTermBound → SmallTerm f
   small-second k d z e l = record { word = l; low = second-low a f k h d z e }
 
 -- ---- an atom under a replacement
 
-module _ (σ : ℕ → Term) (a r k n f x : ℕ) (ka : k ≡ field 63 1 a) (na : n ≡ field 50 12 a) (fa : f ≡ field 25 25 a) (xf : termOf 24 x ≡ subst-term σ (termOf 24 f)) where
-  pub concept-applied : k ≡ 0 → atomOf 24 r ≡ concept n (termOf 24 x) → atomOf 24 r ≡ mapAtom (subst-term σ) (atomOf 24 a)
+module _ (σ : ℕ → Term) (a r k n f x : ℕ) (ka : k ≡ wordKind a) (na : n ≡ wordName a) (fa : f ≡ wordFirst a)
+    (xf : wordTerm x ≡ subst-term σ (wordTerm f)) where
+  pub concept-applied : k ≡ 0 → wordAtom r ≡ concept n (wordTerm x) → wordAtom r ≡ mapAtom (subst-term σ) (wordAtom a)
   concept-applied z h = h ∙ simp (concept-atom a (sym ka ∙ z), na, xf, fa)
 
-  pub role-applied : (g y : ℕ) → (k ≡ 0 → ⊥) → g ≡ field 0 25 a → termOf 24 y ≡ subst-term σ (termOf 24 g) → atomOf 24 r ≡ role n (termOf 24 x) (termOf 24 y) → atomOf 24 r ≡ mapAtom (subst-term σ) (atomOf 24 a)
+  pub role-applied : (g y : ℕ) → (k ≡ 0 → ⊥) → g ≡ wordSecond a → wordTerm y ≡ subst-term σ (wordTerm g)
+      → wordAtom r ≡ role n (wordTerm x) (wordTerm y) → wordAtom r ≡ mapAtom (subst-term σ) (wordAtom a)
   role-applied g y z ga yg h = h ∙ simp (role-atom a (λ y. z (ka ∙ y)), na, xf, fa, yg, ga)
 
-pub small-concept : (r n x : ℕ) → SmallTerm x → atomOf 24 r ≡ concept n (termOf 24 x) → LowAtom r
-small-concept r n x s h v m = elim (List·Memᴰ·cases-cons (subst (λ b. var v ∈ args b) h m)) [ inl e ↦ s .low v e | inr e ↦ absurd (List·Memᴰ·not-nil e) ]
+pub small-concept : (r n x : ℕ) → SmallTerm x → wordAtom r ≡ concept n (wordTerm x) → LowAtom r
+small-concept r n x s h v m =
+    elim (List·Memᴰ·cases-cons (subst (λ b. var v ∈ args b) h m)) [ inl e ↦ s .low v e | inr e ↦ absurd (List·Memᴰ·not-nil e) ]
 
-pub small-role : (r n x y : ℕ) → SmallTerm x → SmallTerm y → atomOf 24 r ≡ role n (termOf 24 x) (termOf 24 y) → LowAtom r
+pub small-role : (r n x y : ℕ) → SmallTerm x → SmallTerm y → wordAtom r ≡ role n (wordTerm x) (wordTerm y) → LowAtom r
 small-role r n x y s t h v m =
     elim (List·Memᴰ·cases-cons (subst (λ b. var v ∈ args b) h m)) [
       | inl e ↦ s .low v e
@@ -222,58 +262,83 @@ small-role r n x y s t h v m =
 
 -- one kind, one number
 abbrev onePredicate : ℕ → ℕ → Bool
-onePredicate a b = eqb (field 63 1 a) (field 63 1 b) && eqb (field 50 12 a) (field 50 12 b)
+onePredicate a b = eqb (wordKind a) (wordKind b) && eqb (wordName a) (wordName b)
+
+pub predicates-exchanged : (p : Bool) (a b : ℕ) → p ≡ onePredicate b a → p ≡ onePredicate a b
+predicates-exchanged p a b e =
+    e ∙ ap₂ _&&_ (same-comm eqb T-eqb (wordKind b) (wordKind a)) (same-comm eqb T-eqb (wordName b) (wordName a))
 
 module _ (a b : ℕ) where
-  pub kinds-decide : (k l n m : ℕ) → k ≡ field 63 1 a → l ≡ field 63 1 b → k ≡ l → n ≡ field 50 12 a → m ≡ field 50 12 b → eqb n m ≡ onePredicate a b
-  kinds-decide k l n m ka lb e na mb = simp (na, mb, eq-eqb (field 63 1 a) (field 63 1 b) (sym ka ∙ e ∙ lb))
+  pub kinds-decide : (k l n m : ℕ) → k ≡ wordKind a → l ≡ wordKind b → k ≡ l → n ≡ wordName a → m ≡ wordName b
+      → eqb n m ≡ onePredicate a b
+  kinds-decide k l n m ka lb e na mb = simp (na, mb, eq-eqb (wordKind a) (wordKind b) (sym ka ∙ e ∙ lb))
 
-  pub kinds-differ : (k l : ℕ) → k ≡ field 63 1 a → l ≡ field 63 1 b → (k ≡ l → ⊥) → false ≡ onePredicate a b
-  kinds-differ k l ka lb e = sym (simp (ne-eqb (field 63 1 a) (field 63 1 b) (λ z. e (ka ∙ z ∙ sym lb))))
+  pub kinds-differ : (k l : ℕ) → k ≡ wordKind a → l ≡ wordKind b → (k ≡ l → ⊥) → false ≡ onePredicate a b
+  kinds-differ k l ka lb e = sym (simp (ne-eqb (wordKind a) (wordKind b) (λ z. e (ka ∙ z ∙ sym lb))))
 
   module _ (p : Bool) (pe : p ≡ onePredicate a b) where
-    both : p ≡ true → T (eqb (field 63 1 a) (field 63 1 b)) × T (eqb (field 50 12 a) (field 50 12 b))
-    both e = T-and (eqb (field 63 1 a) (field 63 1 b)) (eqb (field 50 12 a) (field 50 12 b)) .0 (subst T (sym (sym pe ∙ e)) tt)
+    both : p ≡ true → T (eqb (wordKind a) (wordKind b)) × T (eqb (wordName a) (wordName b))
+    both e = T-and (eqb (wordKind a) (wordKind b)) (eqb (wordName a) (wordName b)) .0 (subst T (sym (sym pe ∙ e)) tt)
 
-    one-kind : p ≡ true → field 63 1 a ≡ field 63 1 b
-    one-kind e = T-eqb (field 63 1 a) (field 63 1 b) .0 (both e .0)
+    one-kind : p ≡ true → wordKind a ≡ wordKind b
+    one-kind e = T-eqb (wordKind a) (wordKind b) .0 (both e .0)
 
-    one-number : p ≡ true → eqb (field 50 12 a) (field 50 12 b) ≡ true
-    one-number e = is-true (eqb (field 50 12 a) (field 50 12 b)) (both e .1)
+    one-number : p ≡ true → eqb (wordName a) (wordName b) ≡ true
+    one-number e = is-true (eqb (wordName a) (wordName b)) (both e .1)
 
-    pub small-second-other : (k f : ℕ) → LowAtom b → p ≡ true → k ≡ field 63 1 a → (k ≡ 0 → ⊥) → f ≡ field 0 25 b → f < 33554432 → SmallTerm f
+    pub small-second-other : (k f : ℕ) → LowAtom b → p ≡ true → k ≡ wordKind a → (k ≡ 0 → ⊥) → f ≡ wordSecond b → f < wordTermBound
+        → SmallTerm f
     small-second-other k f h e ka z d l = small-second b f h k (ka ∙ one-kind e) z d l
 
-    numbers-differ : p ≡ false → field 63 1 a ≡ field 63 1 b → eqb (field 50 12 a) (field 50 12 b) ≡ false
-    numbers-differ e d = ap (λ x. x && eqb (field 50 12 a) (field 50 12 b)) (sym (eq-eqb (field 63 1 a) (field 63 1 b) d)) ∙ sym pe ∙ e
+    numbers-differ : p ≡ false → wordKind a ≡ wordKind b → eqb (wordName a) (wordName b) ≡ false
+    numbers-differ e d = ap (λ x. x && eqb (wordName a) (wordName b)) (sym (eq-eqb (wordKind a) (wordKind b) d)) ∙ sym pe ∙ e
 
-    pub no-unifier : (s : Substitution) → p ≡ false → boundOf (record { ok = false; substitution = s }) ≡ unify (atomOf 24 a) (atomOf 24 b)
-    unfolding boundOf unify
-    no-unifier s e =
-        elim (ℕ-discrete (field 63 1 a) 0) [
-          | yes c ↦ elim (ℕ-discrete (field 63 1 b) 0) [
+    pub no-unifier : (l : List ℕ) → p ≡ false → unifierOf (record { to = l; unified = false }) ≡ unify (wordAtom a) (wordAtom b)
+    unfolding unifierOf unify
+    no-unifier l e =
+        elim (ℕ-discrete (wordKind a) 0) [
+          | yes c ↦ elim (ℕ-discrete (wordKind b) 0) [
             | yes d ↦ sym (simp (concept-atom a c, concept-atom b d, numbers-differ e (c ∙ sym d)))
             | no d ↦ sym (simp (concept-atom a c, role-atom b d))
           ]
-          | no c ↦ elim (ℕ-discrete (field 63 1 b) 0) [
+          | no c ↦ elim (ℕ-discrete (wordKind b) 0) [
             | yes d ↦ sym (simp (role-atom a c, concept-atom b d))
             | no d ↦ sym (simp (role-atom a c, role-atom b d, numbers-differ e (omega arith)))
           ]
         ]
 
-    module _ (start : Substitution) (k f g : ℕ) (r : Bound) (e : p ≡ true) (i : substOf start ≡ var) (ka : k ≡ field 63 1 a) (fa : f ≡ field 25 25 a) (gb : g ≡ field 25 25 b) (h : boundOf r ≡ bind (substOf start) (termOf 24 f) (termOf 24 g)) where
-      pub concepts-unified : k ≡ 0 → boundOf r ≡ unify (atomOf 24 a) (atomOf 24 b)
+    module _ (start r : Substitution) (k f g : ℕ) (e : p ≡ true) (i : substOf start ≡ var) (y : start .unified ≡ true)
+        (ka : k ≡ wordKind a) (fa : f ≡ wordFirst a) (gb : g ≡ wordFirst b)
+        (h : unifierOf r ≡ andThen (unifierOf start) (λ σ. bind σ (wordTerm f) (wordTerm g))) where
+      first-bound : unifierOf r ≡ bind var (firstOf a) (firstOf b)
+      first-bound = h ∙ ap (λ o. andThen o (λ σ. bind σ (wordTerm f) (wordTerm g))) (found start y) ∙ simp (i, fa, gb)
+
+      pub concepts-unified : k ≡ 0 → unifierOf r ≡ unify (wordAtom a) (wordAtom b)
       unfolding unify
-      concepts-unified z = h ∙ sym (simp (concept-atom a (sym ka ∙ z), concept-atom b (sym (one-kind e) ∙ sym ka ∙ z), one-number e, i, fa, gb))
+      concepts-unified z =
+          first-bound ∙ sym (simp (concept-atom a (sym ka ∙ z), concept-atom b (sym (one-kind e) ∙ sym ka ∙ z), one-number e))
 
-      pub roles-unified : (f′ g′ : ℕ) (r′ : Bound) → (k ≡ 0 → ⊥) → f′ ≡ field 0 25 a → g′ ≡ field 0 25 b → boundOf r′ ≡ andThen (boundOf r) (λ σ. bind σ (termOf 24 f′) (termOf 24 g′)) → boundOf r′ ≡ unify (atomOf 24 a) (atomOf 24 b)
+      pub roles-unified : (f′ g′ : ℕ) (r′ : Substitution) → (k ≡ 0 → ⊥) → f′ ≡ wordSecond a → g′ ≡ wordSecond b
+          → unifierOf r′ ≡ andThen (unifierOf r) (λ σ. bind σ (wordTerm f′) (wordTerm g′))
+          → unifierOf r′ ≡ unify (wordAtom a) (wordAtom b)
       unfolding unify
-      roles-unified f′ g′ r′ z fa′ gb′ h′ = h′ ∙ sym (simp (role-atom a (λ y. z (ka ∙ y)), role-atom b (λ y. z (ka ∙ one-kind e ∙ y)), one-number e, h, i, fa, gb, fa′, gb′))
+      roles-unified f′ g′ r′ z fa′ gb′ h′ =
+          h′ ∙ sym (simp (role-atom a (λ y. z (ka ∙ y)), role-atom b (λ y. z (ka ∙ one-kind e ∙ y)), one-number e, first-bound, fa′, gb′))
 
-pub ruleset termLaws = (needs, replaced-there, kept-elsewhere, small-place, applied, object-applied)
+pub ruleset termLaws = (needs, spellings, replaced-there, kept-elsewhere, small-place, applied, object-applied)
 
-pub ruleset placeLaws = (needs, small-variable, small-place, sound-below, none-yet, sound-stored, variable-stored, identity-done, after-stored, after-done)
+pub ruleset placeLaws = (needs, spellings, small-variable, small-place, sound-below, none-yet, sound-stored)
 
-pub ruleset joinLaws = (needs, bound, higher-first, higher-second, object-first, object-second, two-objects, bound-applied, none-bound, then-bound)
+pub ruleset identityLaws = (placeLaws, variable-stored, identity-done)
 
-pub ruleset atomLaws = (needs, small-first, small-second, concept-applied, role-applied, small-concept, small-role, kinds-decide, kinds-differ, small-second-other, no-unifier, concepts-unified, roles-unified)
+pub ruleset afterLaws = (placeLaws, after-stored, after-done)
+
+pub ruleset objectLaws = (object-first, object-second, two-objects)
+
+pub ruleset joinLaws = (needs, spellings, higher-first, higher-second, objectLaws, bound-next, failed-before, bound)
+
+pub ruleset atomLaws = (needs, spellings, small-first, small-second, concept-applied, role-applied, small-concept, small-role)
+
+pub ruleset predicateLaws = (predicates-exchanged, kinds-decide, kinds-differ)
+
+pub ruleset unifyLaws = (atomLaws, predicateLaws, small-second-other, no-unifier, concepts-unified, roles-unified)

@@ -6,32 +6,25 @@ use words::number_of;
 use words::role_word;
 use words::second_term;
 ghost use mathlib.Core.Path.{_≡_};
-ghost use mathlib.Core.Bool.{_&&_};
-ghost use mathlib.Core.Option.{some};
+ghost use mathlib.Core.Bool.{true, _&&_};
 ghost use Prim.Native.Nat.{_<_};
 ghost use lib.Dec.{eqb};
 ghost use Rattle.theory.specs.Lists.{andThen};
 ghost use Rattle.theory.specs.Syntax.{var, mapAtom, subst-term};
 ghost use Rattle.theory.specs.Rewriting.{replace, after, join, bind, unify as unifier};
-ghost use Rattle.words.specs.Records.{field, termOf, atomOf};
-ghost use Rattle.words.specs.LowVariables.{LowAtom};
-ghost use Rattle.substitution.specs.Substitutions.{SmallTerm, Sound, substOf, boundOf};
+ghost use Rattle.words.specs.Words.{wordTerm, wordAtom, wordKind, wordName, LowAtom};
+ghost use Rattle.substitution.specs.Substitutions.{SmallTerm, Sound, substOf, unifierOf};
 
-// Where each variable goes: the word of a term at its place.
+// Where each variable goes, the word of a term at its place; and whether the terms that were to be made equal could be.
 pub struct Substitution {
     pub to: [u64; 32],
-}
-
-// A replacement, where two terms could be made equal.
-pub struct Bound {
-    pub ok: bool,
-    pub substitution: Substitution,
+    pub unified: bool,
 }
 
 // The term w with the variable v replaced by t.
 fn replaced(w: u64, v: u64, t: u64) -> u64
     requires { ⌜ SmallTerm w × (v < 32) × SmallTerm t ⌝ }
-    ensures { λ r. ⌜ (termOf 24 r ≡ subst-term (replace v (termOf 24 t)) (termOf 24 w)) × SmallTerm r ⌝ }
+    ensures { λ r. ⌜ (wordTerm r ≡ subst-term (replace v (wordTerm t)) (wordTerm w)) × SmallTerm r ⌝ }
 {
     if w == v { t } else { w }
 }
@@ -39,7 +32,7 @@ fn replaced(w: u64, v: u64, t: u64) -> u64
 impl Substitution {
     // The replacement that changes nothing.
     pub fn identity() -> Self
-        ensures { λ r. ⌜ (substOf r ≡ var) × Sound r ⌝ }
+        ensures { λ r. ⌜ (substOf r ≡ var) × (r .unified ≡ true) × Sound r ⌝ }
     {
         let mut to = [0u64; 32];
         let mut i: usize = 0;
@@ -47,21 +40,21 @@ impl Substitution {
             to[i] = i as u64;
             i += 1;
         }
-        Self { to }
+        Self { to, unified: true }
     }
 
     // The term that t goes to: a word below 32 is a variable, any other an object.
     pub fn apply(self, t: u64) -> u64
         requires { ⌜ Sound self × SmallTerm t ⌝ }
-        ensures { λ r. ⌜ (termOf 24 r ≡ subst-term (substOf self) (termOf 24 t)) × SmallTerm r ⌝ }
+        ensures { λ r. ⌜ (wordTerm r ≡ subst-term (substOf self) (wordTerm t)) × SmallTerm r ⌝ }
     {
         if t < 32 { self.to[t as usize] } else { t }
     }
 
     // This replacement, and then v replaced by t.
-    pub fn after(mut self, v: u64, t: u64) -> Self
+    fn after(mut self, v: u64, t: u64) -> Self
         requires { ⌜ Sound self × (v < 32) × SmallTerm t ⌝ }
-        ensures { λ r. ⌜ (substOf r ≡ after (substOf self) v (termOf 24 t)) × Sound r ⌝ }
+        ensures { λ r. ⌜ (substOf r ≡ after (substOf self) v (wordTerm t)) × (r .unified ≡ self .unified) × Sound r ⌝ }
     {
         let mut i: usize = 0;
         while i < 32 {
@@ -71,54 +64,44 @@ impl Substitution {
         self
     }
 
-    // The replacement that `after` gives, as one that was found.
-    fn replacing(self, v: u64, t: u64) -> Bound
-        requires { ⌜ Sound self × (v < 32) × SmallTerm t ⌝ }
-        ensures { λ r. ⌜ (boundOf r ≡ some (after (substOf self) v (termOf 24 t))) × Sound (r .substitution) ⌝ }
-    {
-        Bound {
-            ok: true,
-            substitution: self.after(v, t),
-        }
-    }
-
     // This replacement, and then two terms made equal: an object is kept before a variable, and the lower of two variables.
-    fn join(self, s: u64, t: u64) -> Bound
-        requires { ⌜ Sound self × SmallTerm s × SmallTerm t ⌝ }
-        ensures { λ r. ⌜ (boundOf r ≡ join (substOf self) (termOf 24 s) (termOf 24 t)) × Sound (r .substitution) ⌝ }
+    fn join(mut self, s: u64, t: u64) -> Self
+        requires { ⌜ (self .unified ≡ true) × Sound self × SmallTerm s × SmallTerm t ⌝ }
+        ensures { λ r. ⌜ (unifierOf r ≡ join (substOf self) (wordTerm s) (wordTerm t)) × Sound r ⌝ }
     {
         if s < 32 {
             if t < s {
-                return self.replacing(s, t);
+                return self.after(s, t);
             }
             if t < 32 {
-                return self.replacing(t, s);
+                return self.after(t, s);
             }
-            return self.replacing(s, t);
+            return self.after(s, t);
         }
         if t < 32 {
-            return self.replacing(t, s);
+            return self.after(t, s);
         }
-        Bound {
-            ok: s == t,
-            substitution: self,
-        }
+        self.unified = s == t;
+        self
     }
 
-    // This replacement made to send s and t to one term too, if it can be.
-    pub fn bind(self, s: u64, t: u64) -> Bound
+    // This replacement made to send s and t to one term too, if it can be; one that failed before is left as it is.
+    pub fn bind(mut self, s: u64, t: u64) -> Self
         requires { ⌜ Sound self × SmallTerm s × SmallTerm t ⌝ }
-        ensures { λ r. ⌜ (boundOf r ≡ bind (substOf self) (termOf 24 s) (termOf 24 t)) × Sound (r .substitution) ⌝ }
+        ensures { λ r. ⌜ (unifierOf r ≡ andThen (unifierOf self) (λ σ. bind σ (wordTerm s) (wordTerm t))) × Sound r ⌝ }
     {
-        let x = self.apply(s);
-        let y = self.apply(t);
-        self.join(x, y)
+        if self.unified {
+            let x = self.apply(s);
+            let y = self.apply(t);
+            self = self.join(x, y);
+        }
+        self
     }
 
     // The atom that a goes to; a concept atom has one place.
     pub fn apply_atom(self, a: u64) -> u64
         requires { ⌜ Sound self × LowAtom a ⌝ }
-        ensures { λ r. ⌜ (atomOf 24 r ≡ mapAtom (subst-term (substOf self)) (atomOf 24 a)) × LowAtom r ⌝ }
+        ensures { λ r. ⌜ (wordAtom r ≡ mapAtom (subst-term (substOf self)) (wordAtom a)) × LowAtom r ⌝ }
     {
         let kind = kind_of(a);
         let number = number_of(a);
@@ -132,23 +115,9 @@ impl Substitution {
     }
 }
 
-impl Bound {
-    // The replacement, if there is one, made to send s and t to one term too.
-    fn then_bind(self, s: u64, t: u64) -> Bound
-        requires { ⌜ Sound (self .substitution) × SmallTerm s × SmallTerm t ⌝ }
-        ensures { λ r. ⌜ (boundOf r ≡ andThen (boundOf self) (λ σ. bind σ (termOf 24 s) (termOf 24 t))) × Sound (r .substitution) ⌝ }
-    {
-        if self.ok {
-            self.substitution.bind(s, t)
-        } else {
-            self
-        }
-    }
-}
-
 // Whether two atoms have one predicate: one kind and one number.
 fn one_predicate(a: u64, b: u64) -> bool
-    ensures { λ r. ⌜ r ≡ (eqb (field 63 1 a) (field 63 1 b) && eqb (field 50 12 a) (field 50 12 b)) ⌝ }
+    ensures { λ r. ⌜ r ≡ (eqb (wordKind a) (wordKind b) && eqb (wordName a) (wordName b)) ⌝ }
 {
     if kind_of(a) == kind_of(b) {
         number_of(a) == number_of(b)
@@ -158,21 +127,18 @@ fn one_predicate(a: u64, b: u64) -> bool
 }
 
 // The most general replacement that makes two atoms equal, if there is one.
-pub fn unify(a: u64, b: u64) -> Bound
+pub fn unify(a: u64, b: u64) -> Substitution
     requires { ⌜ LowAtom a × LowAtom b ⌝ }
-    ensures { λ r. ⌜ (boundOf r ≡ unifier (atomOf 24 a) (atomOf 24 b)) × Sound (r .substitution) ⌝ }
+    ensures { λ r. ⌜ (unifierOf r ≡ unifier (wordAtom a) (wordAtom b)) × Sound r ⌝ }
 {
-    let start = Substitution::identity();
+    let mut s = Substitution::identity();
     if one_predicate(a, b) {
-        let first = start.bind(first_term(a), first_term(b));
+        s = s.bind(first_term(a), first_term(b));
         if kind_of(a) == 0 {
-            return first;
+            return s;
         }
-        first.then_bind(second_term(a), second_term(b))
-    } else {
-        Bound {
-            ok: false,
-            substitution: start,
-        }
+        return s.bind(second_term(a), second_term(b));
     }
+    s.unified = false;
+    s
 }

@@ -1,2 +1,2 @@
 pub mod Cut
-pub mod Printing
+pub mod Whole

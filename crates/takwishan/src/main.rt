@@ -1,72 +1,48 @@
-// The program: reads the four sheets from the folder that it is run in, draws the answers, and prints them (01, "The program and its cards").
+// The program: reads the four sheets from the folder that it is run in, and prints the answers (01, "The program and its cards").
 mod files;
 mod text;
 
-use crate::files::read_sheet;
-use crate::text::put_answers;
+use crate::files::read_files;
+use crate::text::put_files;
 use libc::STDOUT_FILENO;
+use words::limits::MOST_FACT_BYTES;
+use words::limits::MOST_QUESTION_BYTES;
+use words::limits::MOST_RULE_BYTES;
+use words::limits::MOST_UNION_BYTES;
+ghost use Rattle.takwishan.specs.Files.{Printable};
 
-// A buffer for each sheet has one byte more than the sheet's limit: a longer file fills it, and is refused for its length.
-const RULES: usize = 2049;
+// A buffer for each file has one byte more than the file's limit: a longer file fills it, and is refused for its length.
+const RULES: usize = MOST_RULE_BYTES + 1;
 
-const QUESTION: usize = 62;
+const QUESTION: usize = MOST_QUESTION_BYTES + 1;
 
-const UNION: usize = 33283;
+const UNION: usize = MOST_UNION_BYTES + 1;
 
-const FACTS: usize = 60001;
+const FACTS: usize = MOST_FACT_BYTES + 1;
 
-// "Its answer list has 16,384 bytes."
-const LIST: usize = 16384;
-
-// The longest text: a first line of at most 30 bytes, and three bytes for each byte of the answer list.
+// Room for the longest text: a first line of at most 30 bytes, and three bytes for each byte of the answer list.
 const TEXT: usize = 49182;
 
-// Prints what the four sheets give, in one go.
-fn print_answers(rules: &[u8], question: &[u8], union: &[u8], facts: &[u8]) {
-    let mut list = [0u8; LIST];
-    let mut text = [0u8; TEXT];
-    let n = put_answers(rules, question, union, facts, &mut list, &mut text);
-    let is_written = io::write_all(STDOUT_FILENO, &text[..n]);
+// Prints a text, in one go. Nothing else writes to standard output, and no contract can say what is written.
+fn print(text: &[u8])
+    requires { ⌜ Printable (now text) ⌝ }
+{
+    let is_written = io::write_all(STDOUT_FILENO, text);
     if !is_written {
         os::fail(b"standard output");
     }
 }
 
-// Reads the facts, and prints what the four sheets give. Without facts that could be read nothing is printed.
-fn with_facts(rules: &[u8], question: &[u8], union: &[u8]) {
-    let mut facts = [0u8; FACTS];
-    let read = read_sheet(b"facts.bin", &mut facts);
-    if read.whole {
-        let n = read.length;
-        print_answers(rules, question, union, &facts[..n]);
-    }
-}
-
-// The same from the union on.
-fn with_union(rules: &[u8], question: &[u8]) {
-    let mut union = [0u8; UNION];
-    let read = read_sheet(b"union.bin", &mut union);
-    if read.whole {
-        let n = read.length;
-        with_facts(rules, question, &union[..n]);
-    }
-}
-
-// The same from the question on.
-fn with_question(rules: &[u8]) {
-    let mut question = [0u8; QUESTION];
-    let read = read_sheet(b"question.bin", &mut question);
-    if read.whole {
-        let n = read.length;
-        with_union(rules, &question[..n]);
-    }
-}
-
+// Prints the text for the four files; nothing where one of them is there and can't be read.
 fn main() {
     let mut rules = [0u8; RULES];
-    let read = read_sheet(b"rules.bin", &mut rules);
+    let mut question = [0u8; QUESTION];
+    let mut union = [0u8; UNION];
+    let mut facts = [0u8; FACTS];
+    let read = read_files(&mut rules, &mut question, &mut union, &mut facts);
     if read.whole {
-        let n = read.length;
-        with_question(&rules[..n]);
+        let mut text = [0u8; TEXT];
+        let n = put_files(&rules, &question, &union, &facts, read, &mut text);
+        print(&text[..n]);
     }
 }

@@ -1,18 +1,17 @@
 // The text that the program prints for four sheets.
+use crate::files::Lengths;
 use answering::answer;
+use records::bytes::wide;
 use report::put_report;
 ghost use mathlib.Core.Path.{_≡_};
 ghost use Prim.Native.Nat.{_/_, _≤_};
 ghost use lib.ListN.{length, take, getD};
 ghost use Rattle.io.specs.Counts.{Counts};
-ghost use Rattle.takwishan.specs.Text.{textFor};
+ghost use Rattle.report.specs.Text.{listRoom, textRoom, textFor};
+ghost use Rattle.takwishan.specs.Files.{Filled, TextOf};
 
-// A byte, as a length.
-fn wide(x: u8) -> usize
-    ensures { λ r. ⌜ r ≡ x ⌝ }
-{
-    x as usize
-}
+// "Its answer list has 16,384 bytes."
+const LIST: usize = 16384;
 
 // How many answer terms the question has, by its first byte.
 fn term_count(question: &[u8]) -> usize
@@ -21,12 +20,11 @@ fn term_count(question: &[u8]) -> usize
     if question.len() == 0 {
         return 0;
     }
-    wide(question[0]) / 16
+    (wide(question[0]) / 16) as usize
 }
 
-// Draws the answers into the list, and puts the program's text for them at the start of `text`; returns its length. These bytes are what is
-// printed.
-pub fn put_answers(
+// Draws the answers into the list, and puts the program's text for them at the start of `text`; returns its length.
+fn put_answers(
     rules: &[u8],
     question: &[u8],
     union: &[u8],
@@ -34,8 +32,9 @@ pub fn put_answers(
     list: &mut [u8],
     text: &mut [u8],
 ) -> usize
-    requires { ⌜ (length (now list) ≡ 16384) × (49182 ≤ length (now text)) ⌝ }
-    ensures text { λ r. ⌜ take r (now (text .exit)) ≡ textFor (now (rules .entry)) (now (question .entry)) (now (union .entry)) (now (facts .entry)) ⌝ }
+    requires { ⌜ (length (now list) ≡ listRoom) × (textRoom ≤ length (now text)) ⌝ }
+    ensures text { λ r. ⌜ take r (now (text .exit))
+        ≡ textFor (now (rules .entry)) (now (question .entry)) (now (union .entry)) (now (facts .entry)) ⌝ }
     ensures within { λ r. ⌜ Counts r (now (text .exit)) ⌝ }
 {
     let answers = answer(rules, question, union, facts, list);
@@ -44,6 +43,37 @@ pub fn put_answers(
         answers.count,
         term_count(question),
         list,
+        text,
+    )
+}
+
+// Puts the text for the four files that were read at the start of `text`, and returns its length. Each buffer has room for one byte
+// beyond its file's limit, which also tells them apart: with two of them exchanged the `requires` fails.
+pub fn put_files(
+    rules: &[u8],
+    question: &[u8],
+    union: &[u8],
+    facts: &[u8],
+    read: Lengths,
+    text: &mut [u8],
+) -> usize
+    requires { ⌜ Filled (now rules) (read .rules) (now question) (read .question) (now union) (read .union) (now facts) (read .facts) ⌝ }
+    requires { ⌜ textRoom ≤ length (now text) ⌝ }
+    ensures text { λ r. ⌜ TextOf (now (rules .entry)) (read .rules) (now (question .entry)) (read .question)
+        (now (union .entry)) (read .union) (now (facts .entry)) (read .facts) (take r (now (text .exit))) ⌝ }
+    ensures within { λ r. ⌜ Counts r (now (text .exit)) ⌝ }
+{
+    let mut list = [0u8; LIST];
+    let r = read.rules;
+    let q = read.question;
+    let u = read.union;
+    let f = read.facts;
+    put_answers(
+        &rules[..r],
+        &question[..q],
+        &union[..u],
+        &facts[..f],
+        &mut list,
         text,
     )
 }

@@ -2,8 +2,10 @@
 
 -- on tests, lists, numbers and finite maps
 pub mod Options
+pub mod Spellings
 pub mod Lists
 pub mod Counting
+pub mod Scans
 pub mod Ascending
 pub mod Lookup
 pub mod Refusals
@@ -17,6 +19,7 @@ pub mod Steps
 -- renaming
 pub mod Equivalence
 pub mod Variables
+pub mod Promising
 pub mod RenamingDecided
 pub mod Merging
 pub mod Rules
@@ -36,3 +39,4 @@ pub mod Depth
 pub mod Birth
 pub mod Budget
 pub mod Completeness
+pub mod Agreement

@@ -8,4 +8,3 @@ pub mod Renaming
 pub mod Union
 pub mod Evaluation
 pub mod Laws
-pub mod Agreement

@@ -31,8 +31,17 @@ variables [] = []
 variables (var v ∷ ts) = insertVar v (variables ts)
 variables (const c ∷ ts) = variables ts
 
+-- No answer term and no atom speaks against a renaming in the making, given the test whether a term of p may still become one of q:
+-- each answer term may become its partner, each atom of the one query some atom of the other.
+unfoldable pub promising : (Term → Term → Bool) → Query → Query → Bool
+unfolding onAtoms pairwise any all
+promising may p q =
+    pairwise may (p .answers) (q .answers)
+    && all (λ a. any (λ b. onAtoms may a b) (q .atoms)) (p .atoms)
+    && all (λ b. any (λ a. onAtoms may a b) (p .atoms)) (q .atoms)
+
 -- A renaming in the making is pairs of a source variable and its target. v may still go to w: it does so already, or neither
--- is taken.
+-- is taken. So partly assigned atoms count.
 unfoldable pub mayGo : Option ℕ → Bool → ℕ → Bool
 mayGo none taken w = not taken
 mayGo (some u) taken w = eqb u w
@@ -44,25 +53,19 @@ mayBe ps (var v) (const d) = false
 mayBe ps (const c) (var w) = false
 mayBe ps (const c) (const d) = eqb c d
 
--- No answer term and no atom, as far as it is assigned, speaks against the pairs chosen so far; partly assigned atoms count.
-unfoldable pub promising : Query → Query → Pairs → Bool
-unfolding mayBe onAtoms pairwise any all
-promising p q ps =
-    pairwise (mayBe ps) (p .answers) (q .answers)
-    && all (λ a. any (λ b. onAtoms (mayBe ps) a b) (q .atoms)) (p .atoms)
-    && all (λ b. any (λ a. onAtoms (mayBe ps) a b) (p .atoms)) (q .atoms)
-
 -- the first completion of the pairs that stays promising: sources still to assign, targets still free
 unfoldable pub complete : Query → Query → List ℕ → List ℕ → Pairs → Option Pairs
-unfolding promising firstSome without
+unfolding promising mayBe firstSome without
 complete p q [] free ps = some ps
 complete p q (v ∷ sources) free ps =
-    firstSome (λ w. elim (promising p q ((v, w) ∷ ps)) [ true ↦ complete p q sources (without (eqb w) free) ((v, w) ∷ ps) | false ↦ none ]) free
+    firstSome (λ w.
+    let next = (v, w) ∷ ps in
+    elim (promising (mayBe next) p q) [ true ↦ complete p q sources (without (eqb w) free) next | false ↦ none ]) free
 
 unfoldable pub findRenaming : Query → Query → Option Pairs
-unfolding complete promising variables
+unfolding complete promising mayBe variables
 findRenaming p q =
-    elim (promising p q []) [ true ↦ complete p q (variables (terms p)) (variables (terms q)) [] | false ↦ none ]
+    elim (promising (mayBe []) p q) [ true ↦ complete p q (variables (terms p)) (variables (terms q)) [] | false ↦ none ]
 
 -- the decision: true exactly where there is a renaming (Laws.RenamingDecided)
 unfoldable pub alike : Query → Query → Bool

@@ -7,12 +7,13 @@ use Rattle.theory.specs.Lists.{any}
 use Rattle.theory.specs.Syntax.{var, terms, sameTerm}
 use Rattle.theory.specs.Rewriting.{fresh}
 use Rattle.sets.specs.Sets.{holds}
-use Rattle.sets.specs.Fresh.{lowest-is-fresh}
+use Rattle.sets.specs.Laws.Fresh.{lowest-is-fresh}
 use Rattle.words.specs.Words.{queryOf, Small}
 use Rattle.words.specs.declared.QueryWords.{QueryWords}
 use Rattle.variables.specs.FreshVariable.{fresh-low}
 
-module _ (q : QueryWords) (set r : ℕ) (held : (u : ℕ) → holds set u ≡ any (sameTerm (var u)) (terms (queryOf q))) (s : set < 4294967296) (l : r ≤ 32) (below : (u : ℕ) → u < r → T (holds set u)) (missing : r < 32 → ¬ T (holds set r)) where
+module _ (q : QueryWords) (set r : ℕ) (held : (u : ℕ) → holds set u ≡ any (sameTerm (var u)) (terms (queryOf q))) (s : set < 4294967296)
+    (l : r ≤ 32) (below : (u : ℕ) → u < r → T (holds set u)) (missing : r < 32 → ¬ T (holds set r)) where
   pub missing-fresh : r ≡ fresh (queryOf q)
   missing-fresh = lowest-is-fresh (queryOf q) set r held s (l, below, missing)
 

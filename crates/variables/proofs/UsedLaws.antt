@@ -9,12 +9,15 @@ use lib.ListN.{length, getD, take}
 use borrow.Author.Needs.{needs}
 use Rattle.theory.specs.Lists.{any}
 use Rattle.theory.specs.Syntax.{Term, var, Atom, args, places, terms, sameTerm}
-use Rattle.sets.specs.Sets.{holds, holds-none}
-use Rattle.words.specs.Records.{field, termOf, atomOf}
-use Rattle.words.specs.Words.{queryOf}
+use Rattle.sets.specs.Sets.{holds}
+use Rattle.sets.specs.Laws.Digits.{holds-none}
+use Rattle.words.specs.Words.{queryOf, wordTerm, wordAtom, wordKind, wordFirst, wordSecond, LowTerm, firstOf, secondOf, LowTerm, firstOf, secondOf}
 use Rattle.words.specs.declared.QueryWords.{QueryWords}
-use Rattle.words.specs.LowVariables.{LowTerm, answer-low, atom-low, concept-atom, role-atom, first-low, second-low, firstOf, secondOf, variable-word, object-term, first-more}
+use Rattle.words.specs.Laws.LowVariables.{answer-low, atom-low, concept-atom, role-atom, first-low, second-low}
+use Rattle.words.specs.Laws.LowVariables.{variable-word, object-term}
+use Rattle.words.specs.Laws.Loops.{first-more}
 use Rattle.theory.specs.Laws.Lists.{any-append}
+use Rattle.theory.specs.Laws.Spellings.{spellings}
 use Rattle.variables.specs.UsedVariables.{Adds}
 
 -- ---- terms put in, one after the other
@@ -28,37 +31,40 @@ adds-more xs ys zs set r s e first second = record {
   adds = λ u.
       second .adds u ∙ ap (λ b. any (sameTerm (var u)) ys || b) (first .adds u)
       ∙ sym (or-assoc (any (sameTerm (var u)) ys) (any (sameTerm (var u)) xs) (holds set u))
-      ∙ ap (λ b. b || holds set u) (or-comm (any (sameTerm (var u)) ys) (any (sameTerm (var u)) xs) ∙ sym (any-append (sameTerm (var u)) xs ys) ∙ ap (any (sameTerm (var u))) e);
+      ∙ ap (λ b. b || holds set u)
+      (or-comm (any (sameTerm (var u)) ys) (any (sameTerm (var u)) xs)
+      ∙ sym (any-append (sameTerm (var u)) xs ys) ∙ ap (any (sameTerm (var u))) e);
 }
 
 -- ---- a term
 
-high-object : (t u : ℕ) → LowTerm t → 32 ≤ t → sameTerm (var u) (termOf 24 t) ≡ false
+high-object : (t u : ℕ) → LowTerm t → 32 ≤ t → sameTerm (var u) (wordTerm t) ≡ false
 unfolding sameTerm
 high-object t u low h = simp (object-term t low h)
 
-pub variable-put : (set t r : ℕ) → t < 32 → ((u : ℕ) → holds r u ≡ (eqb u t || holds set u)) → Adds (termOf 24 t ∷ []) set r
+pub variable-put : (set t r : ℕ) → t < 32 → ((u : ℕ) → holds r u ≡ (eqb u t || holds set u)) → Adds (wordTerm t ∷ []) set r
 unfolding any sameTerm
 variable-put set t r h put = record { adds = λ u. put u ∙ sym (simp (variable-word t (omega arith), or-false)) }
 
-pub object-passed : (set t : ℕ) → LowTerm t → 32 ≤ t → Adds (termOf 24 t ∷ []) set set
+pub object-passed : (set t : ℕ) → LowTerm t → 32 ≤ t → Adds (wordTerm t ∷ []) set set
 unfolding any
 object-passed set t low h = record { adds = λ u. sym (simp (high-object t u low h)) }
 
 -- ---- an atom
 
-module _ (a k : ℕ) (ka : k ≡ field 63 1 a) where
-  concept-args : k ≡ 0 → firstOf a ∷ [] ≡ args (atomOf 24 a)
+module _ (a k : ℕ) (ka : k ≡ wordKind a) where
+  concept-args : k ≡ 0 → firstOf a ∷ [] ≡ args (wordAtom a)
   concept-args z = sym (ap args (concept-atom a (sym ka ∙ z)))
 
-  role-args : (k ≡ 0 → ⊥) → firstOf a ∷ secondOf a ∷ [] ≡ args (atomOf 24 a)
+  role-args : (k ≡ 0 → ⊥) → firstOf a ∷ secondOf a ∷ [] ≡ args (wordAtom a)
   role-args z = sym (ap args (role-atom a (λ y. z (ka ∙ y))))
 
-  pub concept-put : (set f r : ℕ) → k ≡ 0 → f ≡ field 25 25 a → Adds (termOf 24 f ∷ []) set r → Adds (args (atomOf 24 a)) set r
-  concept-put set f r z fa first = adds-more (termOf 24 f ∷ []) [] (args (atomOf 24 a)) set r r (simp fa (concept-args z)) first (adds-none r)
+  pub concept-put : (set f r : ℕ) → k ≡ 0 → f ≡ wordFirst a → Adds (wordTerm f ∷ []) set r → Adds (args (wordAtom a)) set r
+  concept-put set f r z fa first = adds-more (wordTerm f ∷ []) [] (args (wordAtom a)) set r r (simp fa (concept-args z)) first (adds-none r)
 
-  pub role-put : (set f g r s : ℕ) → (k ≡ 0 → ⊥) → f ≡ field 25 25 a → g ≡ field 0 25 a → Adds (termOf 24 f ∷ []) set r → Adds (termOf 24 g ∷ []) r s → Adds (args (atomOf 24 a)) set s
-  role-put set f g r s z fa ga = adds-more (termOf 24 f ∷ []) (termOf 24 g ∷ []) (args (atomOf 24 a)) set r s (simp (fa, ga) (role-args z))
+  pub role-put : (set f g r s : ℕ) → (k ≡ 0 → ⊥) → f ≡ wordFirst a → g ≡ wordSecond a → Adds (wordTerm f ∷ []) set r
+      → Adds (wordTerm g ∷ []) r s → Adds (args (wordAtom a)) set s
+  role-put set f g r s z fa ga = adds-more (wordTerm f ∷ []) (wordTerm g ∷ []) (args (wordAtom a)) set r s (simp (fa, ga) (role-args z))
 
 -- ---- the words of a query
 
@@ -68,30 +74,32 @@ places-append (a ∷ as′) bs = ap (λ l. args a ++ l) (places-append as′ bs)
 
 -- the first i answer terms, and the places of the first i atoms
 abbrev pub firstAnswers : ℕ → List ℕ → List Term
-firstAnswers i answers = map (termOf 24) (take i answers)
+firstAnswers i answers = map wordTerm (take i answers)
 
 abbrev pub firstPlaces : ℕ → List ℕ → List Term
-firstPlaces i atoms = places (map (atomOf 24) (take i atoms))
+firstPlaces i atoms = places (map wordAtom (take i atoms))
 
 -- none at first, one more in each turn, all at the end
 module _ (start set r i : ℕ) (words : List ℕ) where
   pub no-answer-put : Adds (firstAnswers 0 words) set set
   no-answer-put = adds-none set
 
-  pub answer-put : (n : ℕ) → length words ≡ 4 → i < n → n ≤ 4 → Adds (firstAnswers i words) start set → Adds (termOf 24 (getD words i 0) ∷ []) set r → Adds (firstAnswers (i + 1) words) start r
+  pub answer-put : (n : ℕ) → length words ≡ 4 → i < n → n ≤ 4 → Adds (firstAnswers i words) start set
+      → Adds (wordTerm (getD words i 0) ∷ []) set r → Adds (firstAnswers (i + 1) words) start r
   answer-put n l h g =
-      adds-more (firstAnswers i words) (termOf 24 (getD words i 0) ∷ []) (firstAnswers (i + 1) words) start set r
-      (sym (first-more (termOf 24) words i (omega arith)))
+      adds-more (firstAnswers i words) (wordTerm (getD words i 0) ∷ []) (firstAnswers (i + 1) words) start set r
+      (sym (first-more wordTerm words i (omega arith)))
 
   pub no-atom-put : Adds (firstPlaces 0 words) set set
   no-atom-put = adds-none set
 
-  pub atom-put : (n : ℕ) → length words ≡ 8 → i < n → n ≤ 8 → Adds (firstPlaces i words) start set → Adds (args (atomOf 24 (getD words i 0))) set r → Adds (firstPlaces (i + 1) words) start r
+  pub atom-put : (n : ℕ) → length words ≡ 8 → i < n → n ≤ 8 → Adds (firstPlaces i words) start set
+      → Adds (args (wordAtom (getD words i 0))) set r → Adds (firstPlaces (i + 1) words) start r
   atom-put n l h g =
-      adds-more (firstPlaces i words) (args (atomOf 24 (getD words i 0))) (firstPlaces (i + 1) words) start set r
-      (sym (ap places (first-more (atomOf 24) words i (omega arith))
-      ∙ places-append (map (atomOf 24) (take i words)) (atomOf 24 (getD words i 0) ∷ [])
-      ∙ ap (λ l. firstPlaces i words ++ l) (append-nil (args (atomOf 24 (getD words i 0))))))
+      adds-more (firstPlaces i words) (args (wordAtom (getD words i 0))) (firstPlaces (i + 1) words) start set r
+      (sym (ap places (first-more wordAtom words i (omega arith))
+      ∙ places-append (map wordAtom (take i words)) (wordAtom (getD words i 0) ∷ [])
+      ∙ ap (λ l. firstPlaces i words ++ l) (append-nil (args (wordAtom (getD words i 0))))))
 
 module _ (q : QueryWords) (set r i : ℕ) where
   pub answers-put : i ≤ q .terms → q .terms ≤ i → Adds (firstAnswers i (q .answers)) set r → Adds (queryOf q .answers) set r
@@ -103,9 +111,28 @@ module _ (q : QueryWords) (set r i : ℕ) where
   atoms-put h g put = let e : i ≡ q .size = omega arith in subst (λ k. Adds (firstPlaces k (q .atoms)) set r) e put
 
 module _ (q : QueryWords) (set r : ℕ) where
-  pub all-put : Adds (queryOf q .answers) 0 set → Adds (places (queryOf q .atoms)) set r → (u : ℕ) → holds r u ≡ any (sameTerm (var u)) (terms (queryOf q))
+  pub all-put : Adds (queryOf q .answers) 0 set → Adds (places (queryOf q .atoms)) set r → (u : ℕ)
+      → holds r u ≡ any (sameTerm (var u)) (terms (queryOf q))
   all-put answers atoms u =
       adds-more (queryOf q .answers) (places (queryOf q .atoms)) (terms (queryOf q)) 0 set r refl answers atoms .adds u
       ∙ ap (λ b. any (sameTerm (var u)) (terms (queryOf q)) || b) (holds-none u) ∙ or-false (any (sameTerm (var u)) (terms (queryOf q)))
 
-pub ruleset laws = (needs, variable-put, object-passed, second-low, concept-put, role-put, first-low, answer-low, atom-low, no-answer-put, answer-put, no-atom-put, atom-put, answers-put, atoms-put, all-put)
+pub ruleset laws = (
+  needs,
+  spellings,
+  variable-put,
+  object-passed,
+  second-low,
+  concept-put,
+  role-put,
+  first-low,
+  answer-low,
+  atom-low,
+  no-answer-put,
+  answer-put,
+  no-atom-put,
+  atom-put,
+  answers-put,
+  atoms-put,
+  all-put,
+)

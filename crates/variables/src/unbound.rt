@@ -1,6 +1,7 @@
 // Unbound terms of a query.
 use words::QueryWords;
 use words::first_term;
+use words::is_variable;
 use words::kind_of;
 use words::same_term;
 use words::second_term;
@@ -9,8 +10,8 @@ ghost use Prim.Native.Nat.{_≤_, _<_};
 ghost use Rattle.theory.specs.Lists.{pick, any, count};
 ghost use Rattle.theory.specs.Syntax.{args, places, sameTerm};
 ghost use Rattle.theory.specs.Rewriting.{unbound as unboundIn};
-ghost use Rattle.words.specs.Records.{termOf, atomOf};
-ghost use Rattle.words.specs.Words.{queryOf, Small};
+ghost use Rattle.words.specs.Words.{queryOf, Small, wordTerm, wordAtom};
+ghost use Rattle.words.specs.Limits.{wordTermBound};
 
 // 1 where the test passed.
 fn one_if(test: bool) -> u64
@@ -21,8 +22,8 @@ fn one_if(test: bool) -> u64
 
 // At how many places of the atom the term stands.
 fn places_of(a: u64, t: u64) -> u64
-    requires { ⌜ t < 33554432 ⌝ }
-    ensures { λ r. ⌜ (r ≡ count (sameTerm (termOf 24 t)) (args (atomOf 24 a))) × (r ≤ 2) ⌝ }
+    requires { ⌜ t < wordTermBound ⌝ }
+    ensures { λ r. ⌜ (r ≡ count (sameTerm (wordTerm t)) (args (wordAtom a))) × (r ≤ 2) ⌝ }
 {
     let first = one_if(same_term(t, first_term(a)));
     if kind_of(a) == 0 {
@@ -34,8 +35,8 @@ fn places_of(a: u64, t: u64) -> u64
 
 // At how many places of the query's atoms the term stands.
 fn count_places(q: QueryWords, t: u64) -> u64
-    requires { ⌜ Small q × (t < 33554432) ⌝ }
-    ensures { λ r. ⌜ r ≡ count (sameTerm (termOf 24 t)) (places (queryOf q .atoms)) ⌝ }
+    requires { ⌜ Small q × (t < wordTermBound) ⌝ }
+    ensures { λ r. ⌜ r ≡ count (sameTerm (wordTerm t)) (places (queryOf q .atoms)) ⌝ }
 {
     let atoms = q.atoms;
     let n = q.size;
@@ -50,8 +51,8 @@ fn count_places(q: QueryWords, t: u64) -> u64
 
 // Whether the term is among the query's answer terms.
 fn in_answers(q: QueryWords, t: u64) -> bool
-    requires { ⌜ Small q × (t < 33554432) ⌝ }
-    ensures { λ r. ⌜ r ≡ any (sameTerm (termOf 24 t)) (queryOf q .answers) ⌝ }
+    requires { ⌜ Small q × (t < wordTermBound) ⌝ }
+    ensures { λ r. ⌜ r ≡ any (sameTerm (wordTerm t)) (queryOf q .answers) ⌝ }
 {
     let answers = q.answers;
     let n = q.terms;
@@ -67,10 +68,10 @@ fn in_answers(q: QueryWords, t: u64) -> bool
 
 // Whether the term is an unbound variable of the query.
 pub fn unbound(q: QueryWords, t: u64) -> bool
-    requires { ⌜ Small q × (t < 33554432) ⌝ }
-    ensures { λ r. ⌜ r ≡ unboundIn (queryOf q) (termOf 24 t) ⌝ }
+    requires { ⌜ Small q × (t < wordTermBound) ⌝ }
+    ensures { λ r. ⌜ r ≡ unboundIn (queryOf q) (wordTerm t) ⌝ }
 {
-    if t / 0x1000000 == 0 {
+    if is_variable(t) {
         if in_answers(q, t) {
             false
         } else {

@@ -10,15 +10,13 @@ ghost use Prim.Native.Nat.{ℕ};
 ghost use Rattle.theory.specs.Lists.{any};
 ghost use Rattle.theory.specs.Syntax.{var, args, places, terms, sameTerm};
 ghost use Rattle.sets.specs.Sets.{holds};
-ghost use Rattle.words.specs.Records.{termOf, atomOf};
-ghost use Rattle.words.specs.Words.{queryOf, Small};
-ghost use Rattle.words.specs.LowVariables.{LowTerm, LowAtom};
+ghost use Rattle.words.specs.Words.{queryOf, Small, wordTerm, wordAtom, LowTerm, LowAtom};
 ghost use Rattle.variables.specs.UsedVariables.{Adds};
 
 // The set with the term put in if it is a variable. The word of a variable is its number, that of an object is 0x1000000 or more.
 fn with_term(set: u32, t: u64) -> u32
     requires { ⌜ LowTerm t ⌝ }
-    ensures { λ r. ⌜ Adds (termOf 24 t ∷ []) set r ⌝ }
+    ensures { λ r. ⌜ Adds (wordTerm t ∷ []) set r ⌝ }
 {
     if t < 32 { with(set, t as u32) } else { set }
 }
@@ -26,7 +24,7 @@ fn with_term(set: u32, t: u64) -> u32
 // The set with the atom's variables put in.
 pub fn with_atom(set: u32, a: u64) -> u32
     requires { ⌜ LowAtom a ⌝ }
-    ensures { λ r. ⌜ Adds (args (atomOf 24 a)) set r ⌝ }
+    ensures { λ r. ⌜ Adds (args (wordAtom a)) set r ⌝ }
 {
     let first = with_term(set, first_term(a));
     if kind_of(a) == 0 {

@@ -1,4 +1,6 @@
--- Records as numbers, and what the words hold that the code works on.
-pub mod LowVariables
+-- Widths, bounds and limits; records as numbers; what the words hold that the code works on.
+pub mod Limits
 pub mod Records
 pub mod Words
+pub mod FactWords
+pub mod Laws

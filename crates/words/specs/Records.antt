@@ -1,47 +1,123 @@
--- The records of 01's sheets as numbers taken apart, before reciprocal names are read. w is the width of an object's number: 16 on the
--- sheets, 24 in the words that the code works on (and on the sheets of T-07).
+-- The records of 01's sheets as numbers taken apart, before reciprocal names are read. w is the width of an object's number: that of the
+-- sheets, or that of the words that the code works on (Limits).
 use Prim.Native.Nat.{ℕ, _+_, _*_, _/_, _%_, _^_}
-use lib.Dec.{eqb}
-use Rattle.theory.specs.Lists.{pick}
+use mathlib.Core.Bool.{Bool, _&&_}
+use mathlib.Core.Option.{Option}
+use lib.Dec.{eqb, ltb}
+use Rattle.theory.specs.Lists.{pick, guard}
 use Rattle.theory.specs.Syntax.{Term, var, const, Atom, concept, role, Basic, named, has, hasInverse, Rule, conceptInclusion, roleInclusion, Step, Fact}
 
 -- the `width` bits of x that have `below` bits after them; 01: "packed with the most significant bit first"
 abbrev pub field : ℕ → ℕ → ℕ → ℕ
 field below width x = x / 2 ^ below % 2 ^ width
 
--- "Rule, 32 bits: kind 4, left form 2, left number 12, right form 2, right number 12."
+-- ---- rules: "Rule, 32 bits: kind 4, left form 2, left number 12, right form 2, right number 12."
+
+abbrev pub ruleKind : ℕ → ℕ
+ruleKind x = field 28 4 x
+
+abbrev pub leftForm : ℕ → ℕ
+leftForm x = field 26 2 x
+
+abbrev pub leftName : ℕ → ℕ
+leftName x = field 14 12 x
+
+abbrev pub rightForm : ℕ → ℕ
+rightForm x = field 12 2 x
+
+abbrev pub rightName : ℕ → ℕ
+rightName x = field 0 12 x
+
+-- a kind and forms that 01 names: kind 1 with forms 0 to 2, kind 2 with left form 0 and right form 0 or 1
+unfoldable pub isRule : ℕ → Bool
+isRule x =
+    pick (eqb (ruleKind x) 1)
+    (ltb (leftForm x) 3 && ltb (rightForm x) 3)
+    (eqb (ruleKind x) 2 && eqb (leftForm x) 0 && ltb (rightForm x) 2)
 
 -- "Form 0 is a concept name, form 1 'has the role to something', form 2 'something has the role to it'."
 unfoldable pub basicOf : ℕ → ℕ → Basic
 basicOf form n = pick (eqb form 0) (named n) (pick (eqb form 1) (has n) (hasInverse n))
 
--- Kind 1, and else kind 2, whose right form is "0 for the same direction, 1 for arguments exchanged".
-unfoldable pub ruleOf : ℕ → Rule
+-- The rule in a number of kind 1 or 2; the right form of kind 2 is "0 for the same direction, 1 for arguments exchanged".
+unfoldable pub ruleIn : ℕ → Rule
 unfolding basicOf
-ruleOf x =
-    pick (eqb (field 28 4 x) 1)
-    (conceptInclusion (basicOf (field 26 2 x) (field 14 12 x)) (basicOf (field 12 2 x) (field 0 12 x)))
-    (roleInclusion (field 14 12 x) (eqb (field 12 2 x) 1) (field 0 12 x))
+ruleIn x =
+    pick (eqb (ruleKind x) 1)
+    (conceptInclusion (basicOf (leftForm x) (leftName x)) (basicOf (rightForm x) (rightName x)))
+    (roleInclusion (leftName x) (eqb (rightForm x) 1) (rightName x))
 
--- "Term, 17 bits: 0 for variable or 1 for object, then a 16-bit number."
+-- the rule of a record, if its kind and forms are named
+unfoldable pub ruleOf : ℕ → Option Rule
+unfolding isRule ruleIn
+ruleOf x = guard (isRule x) (ruleIn x)
+
+-- ---- terms: "Term, 17 bits: 0 for variable or 1 for object, then a 16-bit number."
+
 unfoldable pub termOf : ℕ → ℕ → Term
 termOf w t = pick (eqb (t / 2 ^ w) 0) (var (t % 2 ^ w)) (const (t % 2 ^ w))
 
--- "Atom: 1 bit (0 concept, 1 role), 1 zero bit, number 12, two terms." The second term of a concept atom is no term.
+-- ---- atoms: "1 bit (0 concept, 1 role), 1 zero bit, number 12, two terms."
+
+abbrev pub atomKind : ℕ → ℕ → ℕ
+atomKind w x = field (2 * w + 15) 1 x
+
+abbrev pub atomZero : ℕ → ℕ → ℕ
+atomZero w x = field (2 * w + 14) 1 x
+
+abbrev pub atomName : ℕ → ℕ → ℕ
+atomName w x = field (2 * w + 2) 12 x
+
+abbrev pub atomFirst : ℕ → ℕ → ℕ
+atomFirst w x = field (w + 1) (w + 1) x
+
+abbrev pub atomSecond : ℕ → ℕ → ℕ
+atomSecond w x = field 0 (w + 1) x
+
+-- The second term of a concept atom is no term.
 unfoldable pub atomOf : ℕ → ℕ → Atom Term
 unfolding termOf
 atomOf w x =
-    pick (eqb (field (2 * w + 15) 1 x) 0)
-    (concept (field (2 * w + 2) 12 x) (termOf w (field (w + 1) (w + 1) x)))
-    (role (field (2 * w + 2) 12 x) (termOf w (field (w + 1) (w + 1) x)) (termOf w (field 0 (w + 1) x)))
+    pick (eqb (atomKind w x) 0)
+    (concept (atomName w x) (termOf w (atomFirst w x)))
+    (role (atomName w x) (termOf w (atomFirst w x)) (termOf w (atomSecond w x)))
 
--- "Fact, 48 bits: 1 bit (0 concept, 1 role), 3 zero bits, number 12, two objects of 16; a concept's second object is zero."
+-- ---- facts: "1 bit (0 concept, 1 role), 3 zero bits, number 12, two objects of 16; a concept's second object is zero."
+
+abbrev pub factKind : ℕ → ℕ → ℕ
+factKind w x = field (2 * w + 15) 1 x
+
+abbrev pub factZeros : ℕ → ℕ → ℕ
+factZeros w x = field (2 * w + 12) 3 x
+
+abbrev pub factName : ℕ → ℕ → ℕ
+factName w x = field (2 * w) 12 x
+
+abbrev pub factFirst : ℕ → ℕ → ℕ
+factFirst w x = field w w x
+
+abbrev pub factSecond : ℕ → ℕ → ℕ
+factSecond w x = field 0 w x
+
 unfoldable pub factOf : ℕ → ℕ → Fact
 factOf w x =
-    pick (eqb (field (2 * w + 15) 1 x) 0)
-    (concept (field (2 * w) 12 x) (field w w x))
-    (role (field (2 * w) 12 x) (field w w x) (field 0 w x))
+    pick (eqb (factKind w x) 0)
+    (concept (factName w x) (factFirst w x))
+    (role (factName w x) (factFirst w x) (factSecond w x))
 
--- "Step: kind 2, parent 10, atom 4, other 16."
+-- ---- steps: "Step: kind 2, parent 10, atom 4, other 16."
+
+abbrev pub stepKind : ℕ → ℕ
+stepKind x = field 30 2 x
+
+abbrev pub stepParent : ℕ → ℕ
+stepParent x = field 20 10 x
+
+abbrev pub stepAtom : ℕ → ℕ
+stepAtom x = field 16 4 x
+
+abbrev pub stepOther : ℕ → ℕ
+stepOther x = field 0 16 x
+
 unfoldable pub stepOf : ℕ → Step
-stepOf x = record { kind = field 30 2 x; parent = field 20 10 x; atom = field 16 4 x; other = field 0 16 x }
+stepOf x = record { kind = stepKind x; parent = stepParent x; atom = stepAtom x; other = stepOther x }

@@ -15,7 +15,7 @@ use Rattle.theory.specs.Syntax.{Rule, Query, Member, UCQ}
 use Rattle.theory.specs.Rewriting.{ruleStep, mergeStep}
 use Rattle.theory.specs.Renaming.{alike}
 use Rattle.theory.specs.Union.{yield, yieldsUnlike, anyFrom, refuses8, refuses9}
-use Rattle.words.specs.Records.{field, ruleOf, stepOf}
+use Rattle.words.specs.Records.{ruleIn, stepKind, stepParent, stepAtom, stepOther, stepOf}
 use Rattle.words.specs.Words.{queryOf, Small, rulesIn, memberOf, unionIn}
 use Rattle.words.specs.declared.QueryWords.{QueryWords}
 use Rattle.rewriting.specs.declared.steps.QueryFound.{QueryFound}
@@ -69,7 +69,7 @@ module _ (r : QueryFound) (o : Option Query) (e : queryFound r ≡ o) where
 -- ---- a rule by its number
 
 module _ (rules : List ℕ) (count : ℕ) (within : count ≤ length rules) (r : QueryFound) (q : QueryWords) (i k : ℕ) where
-  pub rule-steps : k < count → ((rs : List Rule) (l : ℕ) → At rs l (ruleOf (getD rules k 0)) → queryFound r ≡ ruleStep rs (queryOf q) i l) → queryFound r ≡ ruleStep (rulesIn rules count) (queryOf q) i k
+  pub rule-steps : k < count → ((rs : List Rule) (l : ℕ) → At rs l (ruleIn (getD rules k 0)) → queryFound r ≡ ruleStep rs (queryOf q) i l) → queryFound r ≡ ruleStep (rulesIn rules count) (queryOf q) i k
   rule-steps h f = f (rulesIn rules count) k (rule-there rules count within k h)
 
   pub no-rule : count ≤ k → queryFound r ≡ none → queryFound r ≡ ruleStep (rulesIn rules count) (queryOf q) i k
@@ -78,18 +78,18 @@ module _ (rules : List ℕ) (count : ℕ) (within : count ≤ length rules) (r :
 
 -- ---- a step by its kind
 
-module _ (rules : List Rule) (q : Query) (step kind atom other : ℕ) (o : Option Query) (k : kind ≡ field 30 2 step) where
-  pub by-rule : kind ≡ 1 → atom ≡ field 16 4 step → other ≡ field 0 16 step → o ≡ ruleStep rules q atom other → o ≡ stepFrom rules q (stepOf step)
+module _ (rules : List Rule) (q : Query) (step kind atom other : ℕ) (o : Option Query) (k : kind ≡ stepKind step) where
+  pub by-rule : kind ≡ 1 → atom ≡ stepAtom step → other ≡ stepOther step → o ≡ ruleStep rules q atom other → o ≡ stepFrom rules q (stepOf step)
   unfolding stepOf
-  by-rule h a b e = e ∙ sym (simp (eq-eqb (field 30 2 step) 1 (sym k ∙ h), a, b))
+  by-rule h a b e = e ∙ sym (simp (eq-eqb (stepKind step) 1 (sym k ∙ h), a, b))
 
-  pub by-merge : (kind ≡ 1 → ⊥) → kind ≡ 2 → atom ≡ field 16 4 step → other ≡ field 0 16 step → o ≡ mergeStep q atom other → o ≡ stepFrom rules q (stepOf step)
+  pub by-merge : (kind ≡ 1 → ⊥) → kind ≡ 2 → atom ≡ stepAtom step → other ≡ stepOther step → o ≡ mergeStep q atom other → o ≡ stepFrom rules q (stepOf step)
   unfolding stepOf
-  by-merge g h a b e = e ∙ sym (simp (ne-eqb (field 30 2 step) 1 (λ z. g (k ∙ z)), eq-eqb (field 30 2 step) 2 (sym k ∙ h), a, b))
+  by-merge g h a b e = e ∙ sym (simp (ne-eqb (stepKind step) 1 (λ z. g (k ∙ z)), eq-eqb (stepKind step) 2 (sym k ∙ h), a, b))
 
   pub by-nothing : (kind ≡ 1 → ⊥) → (kind ≡ 2 → ⊥) → o ≡ none → o ≡ stepFrom rules q (stepOf step)
   unfolding stepOf
-  by-nothing g h e = e ∙ sym (simp (ne-eqb (field 30 2 step) 1 (λ z. g (k ∙ z)), ne-eqb (field 30 2 step) 2 (λ z. h (k ∙ z))))
+  by-nothing g h e = e ∙ sym (simp (ne-eqb (stepKind step) 1 (λ z. g (k ∙ z)), ne-eqb (stepKind step) 2 (λ z. h (k ∙ z))))
 
 -- ---- the step beside a member
 
@@ -98,18 +98,18 @@ unfolding memberOf
 step-there table k = ap stepOf (getD-drop (16 * k) table 0 0 ∙ ap (λ a. getD table a 0) (add-zero (16 * k)))
 
 -- what a step yields whose parent is an earlier member, and one whose parent is not
-yields-from : (rules : List Rule) (union : UCQ) (k w : ℕ) (p : Member) → field 20 10 w < k → At union (field 20 10 w) p → yield rules union k (stepOf w) ≡ stepFrom rules (p .query) (stepOf w)
+yields-from : (rules : List Rule) (union : UCQ) (k w : ℕ) (p : Member) → stepParent w < k → At union (stepParent w) p → yield rules union k (stepOf w) ≡ stepFrom rules (p .query) (stepOf w)
 unfolding yield stepOf
-yields-from rules union k w p h e = simp (lt-ltb (field 20 10 w) k h, e)
+yields-from rules union k w p h e = simp (lt-ltb (stepParent w) k h, e)
 
-yields-nothing : (rules : List Rule) (union : UCQ) (k w : ℕ) → k ≤ field 20 10 w → yield rules union k (stepOf w) ≡ none
+yields-nothing : (rules : List Rule) (union : UCQ) (k w : ℕ) → k ≤ stepParent w → yield rules union k (stepOf w) ≡ none
 unfolding yield stepOf
-yields-nothing rules union k w h = simp (le-ltb (field 20 10 w) k h)
+yields-nothing rules union k w h = simp (le-ltb (stepParent w) k h)
 
-module _ (rules : List Rule) (table : List ℕ) (n k parent : ℕ) (o : Option Query) (p : parent ≡ field 20 10 (getD table (16 * k) 0)) where
+module _ (rules : List Rule) (table : List ℕ) (n k parent : ℕ) (o : Option Query) (p : parent ≡ stepParent (getD table (16 * k) 0)) where
   pub from-parent : (q : QueryWords) → k < n → parent < k → queryOf q ≡ memberAt table parent .query → o ≡ stepFrom rules (queryOf q) (stepOf (getD table (16 * k) 0)) → o ≡ yield rules (unionIn table n) k (memberAt table k .step)
   from-parent q g h e f =
-      let there : At (unionIn table n) (field 20 10 (getD table (16 * k) 0)) (memberAt table parent) = subst (λ x. At (unionIn table n) x (memberAt table parent)) p (union-at table n parent (omega arith)) in
+      let there : At (unionIn table n) (stepParent (getD table (16 * k) 0)) (memberAt table parent) = subst (λ x. At (unionIn table n) x (memberAt table parent)) p (union-at table n parent (omega arith)) in
       f ∙ ap (λ r. stepFrom rules r (stepOf (getD table (16 * k) 0))) e
       ∙ sym (ap (yield rules (unionIn table n) k) (step-there table k) ∙ yields-from rules (unionIn table n) k (getD table (16 * k) 0) (memberAt table parent) (omega arith) there)
 

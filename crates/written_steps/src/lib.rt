@@ -9,6 +9,7 @@ use rows::load;
 use rows::other_in;
 use rows::parent_in;
 use words::QueryWords;
+use words::limits::MEMBER_WORDS;
 ghost use mathlib.Core.Path.{_≡_};
 ghost use mathlib.Core.Bool.{not};
 ghost use mathlib.Core.Option.{none};
@@ -68,7 +69,7 @@ fn yielded(rules: &[u64], count: usize, table: &[u64], n: usize, k: usize) -> Qu
     requires { ⌜ (count ≤ length (now rules)) × Rows (now table) n × (k < n) ⌝ }
     ensures { λ r. ⌜ (queryFound r ≡ yield (rulesIn (now (rules .entry)) count) (unionIn (now (table .entry)) n) k (memberAt (now (table .entry)) k .step)) × Small (r .query) ⌝ }
 {
-    let step = table[16 * k];
+    let step = table[MEMBER_WORDS * k];
     let parent = parent_in(step);
     if parent < k {
         applied(rules, count, load(table, parent), step)

@@ -12,18 +12,19 @@ use Rattle.theory.specs.Lists.{_∈_, At}
 use Rattle.theory.specs.Laws.Options.{none≢some, some-inj}
 use Rattle.theory.specs.Laws.Lists.{here, at-mem, mem-at, at-lt, at-or-past}
 use Rattle.theory.specs.Laws.Ascending.{Ascending}
-use Rattle.theory.specs.Laws.Answers.{Before}
+use Rattle.theory.specs.Evaluation.{Before}
+use Rattle.words.specs.Limits.{objectBound}
 use Rattle.sheets.specs.Packing.{packRecords, All}
 use Rattle.sheets.specs.AnswerList.{tupleSize, tupleBytes, listBytes}
 use Rattle.sheets.specs.Laws.PackingBytes.{stands-whole, length-records, recordsAt, records-read}
 
 -- every object of the tuple is one that 16 bits hold
 abbrev InRange : List ℕ → Type 0
-InRange tuple = All (λ o. o < 65536) tuple
+InRange tuple = All (λ o. o < objectBound) tuple
 
 -- ---- a tuple's bytes
 
-pub length-tuple : (t : List ℕ) → length (tupleBytes 16 t) ≡ tupleSize 16 (length t)
+pub length-tuple : (t : List ℕ) → length (tupleBytes t) ≡ tupleSize (length t)
 unfolding tupleBytes
 length-tuple t = length-records 2 t
 
@@ -31,7 +32,7 @@ length-tuple t = length-records 2 t
 read-again : (t : List ℕ) → InRange t → recordsAt (packRecords 2 t) (λ i. 2 * i) 2 0 (length t) ≡ t
 read-again t h = records-read (packRecords 2 t) (λ i. 2 * i) 2 0 0 t (λ i. omega arith) h (stands-whole (packRecords 2 t))
 
-pub tuple-unique : (t u : List ℕ) → InRange t → InRange u → tupleBytes 16 t ≡ tupleBytes 16 u → t ≡ u
+pub tuple-unique : (t u : List ℕ) → InRange t → InRange u → tupleBytes t ≡ tupleBytes u → t ≡ u
 unfolding tupleBytes
 tuple-unique t u h k e =
     let a : length (packRecords 2 t) ≡ 2 * length t = length-records 2 t in
@@ -81,41 +82,41 @@ ascending-at Less (z ∷ zs) a (suc j) (suc k) l d e = ascending-at Less zs (a .
 
 -- tuples of objects in range, all of one length
 module _ (answers : List (List ℕ)) (terms room : ℕ) (known : (t : List ℕ) → t ∈ answers → InRange t × (length t ≡ terms)) where
-  sizes : (t : List ℕ) → t ∈ answers → length (tupleBytes 16 t) ≡ tupleSize 16 terms
-  sizes t m = length-tuple t ∙ ap (tupleSize 16) (known t m .1)
+  sizes : (t : List ℕ) → t ∈ answers → length (tupleBytes t) ≡ tupleSize terms
+  sizes t m = length-tuple t ∙ ap tupleSize (known t m .1)
 
-  pub length-answers : length (flatMap (tupleBytes 16) answers) ≡ tupleSize 16 terms * length answers
-  length-answers = length-parts (tupleBytes 16) (tupleSize 16 terms) answers sizes
+  pub length-answers : length (flatMap tupleBytes answers) ≡ tupleSize terms * length answers
+  length-answers = length-parts tupleBytes (tupleSize terms) answers sizes
 
   -- the bytes at place k
   abbrev part : ℕ → List ℕ
-  part k = take (tupleSize 16 terms) (drop (tupleSize 16 terms * k) (listBytes 16 room answers))
+  part k = take (tupleSize terms) (drop (tupleSize terms * k) (listBytes room answers))
 
-  part-of : (k : ℕ) {t : List ℕ} → At answers k t → part k ≡ tupleBytes 16 t
+  part-of : (k : ℕ) {t : List ℕ} → At answers k t → part k ≡ tupleBytes t
   unfolding listBytes
-  part-of k e = part-at (tupleBytes 16) (tupleSize 16 terms) answers sizes (replicate (room - length (flatMap (tupleBytes 16) answers)) 0) k e
+  part-of k e = part-at tupleBytes (tupleSize terms) answers sizes (replicate (room - length (flatMap tupleBytes answers)) 0) k e
 
   -- what stands at place k is the answer with index k
-  answer-at : (k : ℕ) → k < length answers → (t : List ℕ) → InRange t → part k ≡ tupleBytes 16 t → At answers k t
+  answer-at : (k : ℕ) → k < length answers → (t : List ℕ) → InRange t → part k ≡ tupleBytes t → At answers k t
   answer-at k l t h e =
       elim (at-or-past answers k) [
         | inl (u, a) ↦ (let d : u ≡ t = tuple-unique u t (known u (at-mem answers k a) .0) h (sym (part-of k a) ∙ e) in subst (λ (v : List ℕ). At answers k v) d a)
         | inr m ↦ absurd (omega arith)
       ]
 
-  pub listed-iff : (t : List ℕ) → InRange t → ((k : ℕ) × (k < length answers) × (part k ≡ tupleBytes 16 t)) ↔ (t ∈ answers)
+  pub listed-iff : (t : List ℕ) → InRange t → ((k : ℕ) × (k < length answers) × (part k ≡ tupleBytes t)) ↔ (t ∈ answers)
   listed-iff t h = (
     λ w. at-mem answers (w .0) (answer-at (w .0) (w .1) t h (w .2)),
     λ m. let (k, a) = mem-at m in (k, at-lt answers k a, part-of k a),
   )
 
   pub listed-ascending : Ascending Before answers → (j k : ℕ) (t u : List ℕ) → InRange t → InRange u → j < k → k < length answers
-      → part j ≡ tupleBytes 16 t → part k ≡ tupleBytes 16 u → Before t u
+      → part j ≡ tupleBytes t → part k ≡ tupleBytes u → Before t u
   listed-ascending a j k t u h g l m d e = ascending-at Before answers a j k l (answer-at j (omega arith) t h d) (answer-at k m u g e)
 
   -- zeros after them
-  pub listed-rest : drop (tupleSize 16 terms * length answers) (listBytes 16 room answers) ≡ replicate (room - tupleSize 16 terms * length answers) 0
+  pub listed-rest : drop (tupleSize terms * length answers) (listBytes room answers) ≡ replicate (room - tupleSize terms * length answers) 0
   unfolding listBytes
   listed-rest =
-      drop-at (flatMap (tupleBytes 16) answers) (replicate (room - length (flatMap (tupleBytes 16) answers)) 0) (tupleSize 16 terms * length answers) length-answers
+      drop-at (flatMap tupleBytes answers) (replicate (room - length (flatMap tupleBytes answers)) 0) (tupleSize terms * length answers) length-answers
       ∙ ap (λ n. replicate (room - n) 0) length-answers

@@ -12,8 +12,9 @@ use Rattle.theory.specs.Union.{Accepted, check}
 use Rattle.theory.specs.Laws.Options.{none≢some, some-inj}
 use Rattle.theory.specs.Laws.Union.{check-accepts}
 use Rattle.sheets.specs.Format.{termCount}
-use Rattle.sheets.specs.Refusals.{refuses6, Sheets, onlyRules, questionAndUnion, checking, refusalOf, Sound, numberOf, ruleRefusals, questionRefusals}
-use Rattle.sheets.specs.Laws.OneList.{first-positive, number-stops, number-goes-on, readRules, readQuestion, readUnion, unionRefusals, checkingConditions, checking-first, rules-only, question-and-union, number-zero, checking-refused-iff}
+use Rattle.sheets.specs.Refusals.{Sheets, onlyRules, questionAndUnion, checking, refusalOf, Sound, numberOf, refusals, conditionsFor, ruleRefusals, questionRefusals, readRules, readQuestion, readUnion}
+use Rattle.sheets.specs.Tests.{refuses6}
+use Rattle.sheets.specs.Laws.OneList.{first-positive, number-stops, number-goes-on, unionRefusals, checking-first, rules-only, question-and-union, number-zero, refused-iff}
 
 -- a number other than 0 is that of a refusal
 pub numbered : (o : Option ℕ) (n : ℕ) → 0 < n → (numberOf o ≡ n) ↔ (o ≡ some n)
@@ -65,8 +66,8 @@ module _ (partners : List ℕ) (w : ℕ) (sheets : Sheets) where
         λ ok. first ∙ pass .1 (sym rules ∙ ok .0, sym middle ∙ ok .1, accepts .1 (ok .2)),
       )
 
-  pub positive-iff : (n : ℕ) → 0 < n → (numberOf (refusalOf partners w checking sheets) ≡ n) ↔ First (checkingConditions partners w sheets) n
-  positive-iff n l = Iff·trans (numbered (refusalOf partners w checking sheets) n l) (checking-refused-iff partners w sheets n)
+  pub positive-iff : (n : ℕ) → 0 < n → (numberOf (refusalOf partners w checking sheets) ≡ n) ↔ First (conditionsFor partners w checking sheets (refusals partners w)) n
+  positive-iff n l = Iff·trans (numbered (refusalOf partners w checking sheets) n l) (refused-iff partners w sheets checking n)
 
   -- ---- sheet by sheet: a refusal is final
 

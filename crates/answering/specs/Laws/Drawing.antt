@@ -12,20 +12,23 @@ use Rattle.theory.specs.Lists.{_∈_, Unrepeated, pick, guard, all}
 use Rattle.theory.specs.Refusals.{firstRefusal, First, NoneHolds}
 use Rattle.theory.specs.Syntax.{Member, Fact}
 use Rattle.theory.specs.Chase.{SecondReader}
-use Rattle.theory.specs.Evaluation.{found, insertTuple, answersOf}
-use Rattle.theory.specs.Agreement.{readers-agree}
+use Rattle.theory.specs.Evaluation.{found, insertTuple, answersOf, Before}
+use Rattle.theory.specs.Laws.Agreement.{readers-agree}
 use Rattle.theory.specs.Laws.Options.{T-and, none≢some, some-inj}
 use Rattle.theory.specs.Laws.Lists.{here, flatMap-found, mem-at, at-equal, dropAt, mem-dropAt}
 use Rattle.theory.specs.Laws.Ascending.{inserted-mem}
 use Rattle.theory.specs.Laws.Matches.{found-length}
 use Rattle.theory.specs.Laws.Pigeonhole.{length-dropAt}
-use Rattle.theory.specs.Laws.Answers.{Before, answers-iff, insertTuple-inserts}
+use Rattle.theory.specs.Laws.Answers.{answers-iff, insertTuple-inserts}
+use Rattle.words.specs.Limits.{sheetWidth, objectBound}
 use Rattle.sheets.specs.Partners.{partners01}
-use Rattle.sheets.specs.Refusals.{Sheets, checking, drawing, onlyFacts, refusals, testsFor, refusalOf, Sound, numberOf, factRefusals}
+use Rattle.sheets.specs.Refusals.{Sheets, checking, drawing, onlyFacts, refusals, testsFor, refusalOf, numberOf, factRefusals}
 use Rattle.sheets.specs.Laws.Tests.{ltb-tells, lt-or-le}
-use Rattle.sheets.specs.Laws.OneList.{number-zero, checking-first, facts-only, drawn, checked-accepted, drawingConditions, drawing-refused-iff, drawing-passed-iff}
-use Rattle.evaluation.specs.Registered.{registered}
-use Rattle.answering.specs.Demands.{theRules, theQuestion, theUnion, theFacts, sheetsOf, AcceptedFor, SoundFacts, SoundAndAccepted, zero-accepts, zero-means}
+use Rattle.sheets.specs.Laws.OneList.{number-zero, checking-first, facts-only, drawn, checked-accepted, refused-iff, passed-iff}
+use Rattle.evaluation.specs.Laws.Registered.{registered}
+use Rattle.answering.specs.TheSheets.{theRules, theQuestion, theUnion, theFacts, theRefusal, NotRefused, theConditions, SoundFacts}
+use Rattle.answering.specs.Checking.{sheetsOf, AcceptedFor, SoundAndAccepted}
+use Rattle.answering.specs.Laws.CheckPromises.{zero-accepts, zero-means}
 use Rattle.answering.specs.Laws.Checking.{numbered}
 use Rattle.answering.specs.Laws.Conditions.{with-last, none-with-last}
 use Rattle.sheets.specs.Laws.ObjectRange.{facts-in-range, constants-in-range}
@@ -65,27 +68,27 @@ no-such bound (e ∷ es) h d =
 module _ (sheets : Sheets) (room needed : ℕ) where
   -- 1 to 13, and then 14
   abbrev pub refusal : Option ℕ
-  refusal = orElse (refusalOf partners01 16 drawing sheets) (guard (ltb room needed) 14)
+  refusal = orElse (theRefusal drawing sheets) (guard (ltb room needed) 14)
 
-  pub positive-iff : (n : ℕ) → 0 < n → (numberOf refusal ≡ n) ↔ First (drawingConditions partners01 16 sheets ++ ((14, room < needed) ∷ [])) n
+  pub positive-iff : (n : ℕ) → 0 < n → (numberOf refusal ≡ n) ↔ First (theConditions drawing sheets ++ ((14, room < needed) ∷ [])) n
   positive-iff n l =
       Iff·trans (numbered refusal n l)
-      (with-last (drawingConditions partners01 16 sheets) (refusalOf partners01 16 drawing sheets) (drawing-refused-iff partners01 16 sheets) (drawing-passed-iff partners01 16 sheets)
+      (with-last (theConditions drawing sheets) (theRefusal drawing sheets) (refused-iff partners01 sheetWidth sheets drawing) (passed-iff partners01 sheetWidth sheets drawing)
       14 (ltb room needed) (room < needed) (ltb-tells room needed .pass) n)
 
   pub zero-none : (numberOf refusal ≡ 0) ↔ (refusal ≡ none)
-  zero-none = zero-behind (refusalOf partners01 16 drawing sheets) (ltb room needed) 14 (omega arith) (number-zero partners01 16 sheets drawing)
+  zero-none = zero-behind (theRefusal drawing sheets) (ltb room needed) 14 (omega arith) (number-zero partners01 sheetWidth sheets drawing)
 
-  pub none-iff : (numberOf refusal ≡ 0) ↔ NoneHolds (drawingConditions partners01 16 sheets ++ ((14, room < needed) ∷ []))
+  pub none-iff : (numberOf refusal ≡ 0) ↔ NoneHolds (theConditions drawing sheets ++ ((14, room < needed) ∷ []))
   none-iff =
       Iff·trans zero-none
-      (none-with-last (drawingConditions partners01 16 sheets) (refusalOf partners01 16 drawing sheets) (drawing-refused-iff partners01 16 sheets) (drawing-passed-iff partners01 16 sheets)
+      (none-with-last (theConditions drawing sheets) (theRefusal drawing sheets) (refused-iff partners01 sheetWidth sheets drawing) (passed-iff partners01 sheetWidth sheets drawing)
       14 (ltb room needed) (room < needed) (ltb-tells room needed .pass))
 
-  pub fourteen-iff : (numberOf refusal ≡ 14) ↔ (Sound partners01 16 drawing sheets × (room < needed))
+  pub fourteen-iff : (numberOf refusal ≡ 14) ↔ (NotRefused drawing sheets × (room < needed))
   unfolding refusalOf refusals testsFor all
   fourteen-iff =
-      let last = only-last (refusalOf partners01 16 drawing sheets) (ltb room needed) 14 (no-such 14 (testsFor partners01 16 drawing sheets (refusals partners01 16)) tt) in
+      let last = only-last (theRefusal drawing sheets) (ltb room needed) 14 (no-such 14 (testsFor partners01 sheetWidth drawing sheets (refusals partners01 sheetWidth)) tt) in
       let c = ltb-tells room needed .pass in
       Iff·trans (numbered refusal 14 (omega arith)) (Iff·trans last (λ k. (k .0, c .0 (k .1)), λ k. (k .0, c .1 (k .1))))
 
@@ -96,29 +99,29 @@ module _ (rules question union facts : List ℕ) where
   four = record { rules = rules; question = question; union = union; facts = facts }
 
   -- checking takes no facts
-  pub checked-same : refusalOf partners01 16 checking four ≡ refusalOf partners01 16 checking (sheetsOf rules question union)
-  checked-same = checking-first partners01 16 four ∙ sym (checking-first partners01 16 (sheetsOf rules question union))
+  pub checked-same : theRefusal checking four ≡ theRefusal checking (sheetsOf rules question union)
+  checked-same = checking-first partners01 sheetWidth four ∙ sym (checking-first partners01 sheetWidth (sheetsOf rules question union))
 
-  facts-same : refusalOf partners01 16 onlyFacts (record { rules = []; question = []; union = []; facts = facts }) ≡ firstRefusal (factRefusals 16 facts)
-  facts-same = facts-only partners01 16 (record { rules = []; question = []; union = []; facts = facts })
+  facts-same : theRefusal onlyFacts (record { rules = []; question = []; union = []; facts = facts }) ≡ firstRefusal (factRefusals sheetWidth facts)
+  facts-same = facts-only partners01 sheetWidth (record { rules = []; question = []; union = []; facts = facts })
 
   -- drawing's refusals pass where checking's do and the facts are sound
-  pub drawing-sound : Sound partners01 16 drawing four ↔ (AcceptedFor rules question union × SoundFacts facts)
+  pub drawing-sound : NotRefused drawing four ↔ (AcceptedFor rules question union × SoundFacts facts)
   drawing-sound =
-      let d = drawn partners01 16 four in (
+      let d = drawn partners01 sheetWidth four in (
         λ e. let k = d .0 e in (sym checked-same ∙ k .0, facts-same ∙ k .1),
         λ k. d .1 (checked-same ∙ k .0, sym facts-same ∙ k .1),
       )
 
   -- in the words of demand 2, and of 01 for the facts
-  all-sound : Sound partners01 16 drawing four ↔ (SoundAndAccepted rules question union × SoundFacts facts)
+  all-sound : NotRefused drawing four ↔ (SoundAndAccepted rules question union × SoundFacts facts)
   all-sound =
       let s = Iff·trans (zero-accepts rules question union .1, zero-accepts rules question union .0) (zero-means rules question union) in
       Iff·trans drawing-sound (λ k. (s .0 (k .0), k .1), λ k. (s .1 (k .0), k .1))
 
   pub zero-sound : (room needed : ℕ) → (numberOf (refusal four room needed) ≡ 0) ↔ (SoundAndAccepted rules question union × SoundFacts facts × (needed ≤ room))
   zero-sound room needed =
-      let b = both-none (refusalOf partners01 16 drawing four) (ltb room needed) 14 in
+      let b = both-none (theRefusal drawing four) (ltb room needed) 14 in
       let c = ltb-tells room needed .pass in
       Iff·trans (zero-none four room needed) (
         λ e. let k = b .0 e in let d = all-sound .0 (k .0) in (d .0, d .1, not-less (k .1)),
@@ -135,12 +138,12 @@ module _ (rules question union facts : List ℕ) where
   module _ (accepted : AcceptedFor rules question union) where
     -- every answer has objects that 16 bits hold, and as many as the question has answer terms
     pub answers-known : (t : List ℕ) → t ∈ answersOf (theFacts facts) (theUnion union)
-        → ((o : ℕ) → o ∈ t → o < 65536) × (length t ≡ length (theQuestion question .answers))
+        → ((o : ℕ) → o ∈ t → o < objectBound) × (length t ≡ length (theQuestion question .answers))
     unfolding answersOf
     answers-known t m =
         let F : List Fact = theFacts facts in
         let find : Member → List (List ℕ) = λ n. found F (n .query) in
-        let sound = checked-accepted partners01 16 (sheetsOf rules question union) accepted .0 in
+        let sound = checked-accepted partners01 sheetWidth (sheetsOf rules question union) accepted .0 in
         let drawn-by = inserted-mem Before insertTuple insertTuple-inserts (flatMap find (theUnion union)) m in
         let (n, k, f) = flatMap-found find (theUnion union) drawn-by in (
           registered F (theUnion union) (facts-in-range partners01 facts) (constants-in-range partners01 union) .objects t drawn-by,
@@ -150,7 +153,7 @@ module _ (rules question union facts : List ℕ) where
     -- the answers are the second reader's
     pub answers-second : (t : List ℕ) → (t ∈ answersOf (theFacts facts) (theUnion union)) ↔ SecondReader (theRules rules) (theQuestion question) (theFacts facts) t
     answers-second t =
-        let ok = checked-accepted partners01 16 (sheetsOf rules question union) accepted in
+        let ok = checked-accepted partners01 sheetWidth (sheetsOf rules question union) accepted in
         Iff·trans (answers-iff (theFacts facts) (theUnion union) (λ n k. ok .0 n k .safe) t)
         (readers-agree (theRules rules) (theQuestion question) (theUnion union) (λ n k. ok .0 n k .distinct) (ok .1) (theFacts facts) t)
 

@@ -1,8 +1,9 @@
-use mathlib.Core.Path.{refl}
-use native.Mathlib.Omega.{arith}
 use Rattle.read_facts.proofs.FactLaws.{laws}
 use Rattle.read_facts.proofs.read_facts.Statement.{statement}
 use Rattle.read_facts.proofs.read_facts.Tie as tie
 
 pub read-facts-spec : {M : Type 1} → statement M
-read-facts-spec = tie.close (tie.spec (λ c κs. search laws) (λ c. (search laws, (search laws, ((λ none. absurd (omega arith)), ((λ _. search laws), search laws))))) (λ c κs. search laws) (λ c. (search laws, (search laws, ((λ none. absurd (omega arith)), ((λ _. search laws), search laws))))) (λ c κs. search laws) (λ c κs. search laws) (λ c. (search laws, (search laws, ((λ none. absurd (omega arith)), ((λ _. search laws), search laws))))) (λ c κs. search laws) (λ c. search laws) (λ c. (search laws, (search laws, ((λ _. search laws), ((λ refused. absurd (refused refl)), search laws))))))
+read-facts-spec =
+    tie.close
+    (tie.spec (λ c κs. search laws) (λ c. search laws) (λ c κs. search laws) (λ c. search laws) (λ c κs. search laws)
+    (λ c κs. search laws) (λ c. search laws) (λ c κs. search laws) (λ c. search laws) (λ c. search laws))

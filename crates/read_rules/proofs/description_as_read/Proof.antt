@@ -5,6 +5,5 @@ use Rattle.read_rules.proofs.description_as_read.Tie as tie
 pub description-as-read-spec : {M : Type 1} → statement M
 description-as-read-spec =
     tie.close
-    (tie.spec
-    (λ c. search readLaws) (λ c κs. search readLaws) (λ c κs. search readLaws) (λ c. search readLaws) (λ c. search readLaws)
+    (tie.spec (λ c. search readLaws) (λ c κs. search readLaws) (λ c κs. search readLaws) (λ c. search readLaws) (λ c. search readLaws)
     (λ c. search readLaws) (λ c. search readLaws) (λ c. search readLaws) (λ c. search readLaws) (λ c. search readLaws))

@@ -3,4 +3,6 @@ use Rattle.read_union.proofs.member.Statement.{statement}
 use Rattle.read_union.proofs.member.Tie as tie
 
 pub member-spec : {M : Type 1} → statement M
-member-spec = tie.close (tie.spec (λ c κs. search laws) (λ c κs. search laws) (λ c. search laws) (λ c κs. search laws) (λ c. search laws) (λ c. search laws) (λ c. search laws) (λ c. search laws) (λ c. search laws) (λ c. search laws) (λ c. search laws) (λ c. search laws) (λ c. search laws))
+member-spec =
+    tie.close
+    (tie.spec (λ c κs. search laws) (λ c. search laws) (λ c. search laws) (λ c. search laws) (λ c. search laws) (λ c. search laws))

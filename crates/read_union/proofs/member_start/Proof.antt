@@ -5,12 +5,16 @@ use Rattle.sheets.specs.Format.{memberStart}
 use Rattle.read_union.proofs.MemberLaws.{laws}
 use Rattle.read_union.proofs.member_start.Statement.{statement}
 use Rattle.read_union.proofs.member_start.Tie as tie
+use Rattle.words.specs.Limits.{sheetWidth}
 
 abbrev Inv-loop : tie.InvT-loop
-Inv-loop s m at₀ j₀ at j = (j ≤ m) × (at ≡ memberStart 16 s j)
+Inv-loop s m at₀ j₀ at j = (j ≤ m) × (at ≡ memberStart sheetWidth s j)
 
 abbrev μ-loop : tie.MeasureT-loop
 μ-loop s m at₀ j₀ at j = m - j
 
 pub member-start-spec : {M : Type 1} → statement M
-member-start-spec = tie.close (tie.spec Inv-loop μ-loop (λ c. search laws) (λ c κs. search laws) (λ c. search laws) (λ c. search laws) (λ c. search laws) (λ c. search laws))
+member-start-spec =
+    tie.close
+    (tie.spec Inv-loop μ-loop (λ c. search laws) (λ c κs. search laws) (λ c. search laws) (λ c. search laws) (λ c. search laws)
+    (λ c. search laws))

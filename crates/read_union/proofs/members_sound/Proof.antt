@@ -6,12 +6,17 @@ use Rattle.sheets.specs.Format.{memberStart}
 use Rattle.read_union.proofs.UnionLaws.{laws, SoundBelow}
 use Rattle.read_union.proofs.members_sound.Statement.{statement}
 use Rattle.read_union.proofs.members_sound.Tie as tie
+use Rattle.words.specs.Limits.{sheetWidth}
 
 abbrev Inv-loop : tie.InvT-loop
-Inv-loop s partners arity count at₀ seen₀ at seen = (seen ≤ count) × (at ≡ memberStart 16 s seen) × (at ≤ length s) × SoundBelow partners arity s seen
+Inv-loop s partners arity count at₀ seen₀ at seen =
+    (seen ≤ count) × (at ≡ memberStart sheetWidth s seen) × (at ≤ length s) × SoundBelow partners arity s seen
 
 abbrev μ-loop : tie.MeasureT-loop
 μ-loop s partners arity count at₀ seen₀ at seen = count - seen
 
 pub members-sound-spec : {M : Type 1} → statement M
-members-sound-spec = tie.close (tie.spec Inv-loop μ-loop (λ c. search laws) (λ c κs. search laws) (λ c. search laws) (λ c. search laws) (λ c. search laws) (λ c. search laws) (λ c. search laws))
+members-sound-spec =
+    tie.close
+    (tie.spec Inv-loop μ-loop (λ c. search laws) (λ c κs. search laws) (λ c. search laws) (λ c. search laws) (λ c. search laws)
+    (λ c. search laws) (λ c. search laws))

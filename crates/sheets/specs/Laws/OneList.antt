@@ -4,25 +4,26 @@ use mathlib.Core.Path.{_≡_, refl, sym, ap, _∙_, subst}
 use mathlib.Core.Logic.{_↔_, _≢_, Iff·trans}
 use Prim.Native.Nat.{ℕ}
 use native.Mathlib.Omega.{arith}
-use mathlib.Core.Bool.{Bool, true, false}
+use mathlib.Core.Bool.{Bool, true, false, _&&_}
 use mathlib.Core.Option.{Option, none, some, orElse}
 use mathlib.Core.List.{List, [], _∷_, _++_}
 use lib.Dec.{T, ltb}
 use Rattle.theory.specs.Lists.{pick, all}
 use Rattle.theory.specs.Refusals.{firstRefusal, First, NoneHolds}
 use Rattle.theory.specs.Syntax.{Rule, Query, UCQ}
-use Rattle.theory.specs.Union.{SoundUnion, Accepted, conditions, refuses7, refuses8, refuses9, refuses10, refuses11, check}
+use Rattle.theory.specs.Union.{SoundUnion, Accepted, refuses7, refuses8, refuses9, refuses10, refuses11, check}
 use Rattle.theory.specs.Laws.Options.{T-and, none≢some}
 use Rattle.theory.specs.Laws.Refusals.{Decides, first-refusal-iff, no-refusal-iff}
 use Rattle.theory.specs.Laws.Union.{check-accepts}
 use Rattle.theory.specs.Laws.UnionTests.{refuses7-iff, refuses8-iff, refuses9-iff, refuses10-iff, refuses11-iff}
 use Rattle.sheets.specs.Format.{termCount}
-use Rattle.sheets.specs.Refusals.{refuses6, Sheets, Which, Refusal, within, onlyRules, onlyQuestion, onlyFacts, questionAndUnion, checking, drawing, rulesAsRead, questionAsRead, unionAsRead, refusals, testsFor, refusalOf, numberOf, ruleRefusals, questionRefusals, factRefusals}
+use Rattle.sheets.specs.Refusals.{Sheets, Which, Refusal, within, onlyRules, onlyQuestion, onlyFacts, questionAndUnion, checking, drawing, readRules, readQuestion, readUnion, refusals, testsFor, conditionsFor, refusalOf, numberOf, ruleRefusals, questionRefusals, factRefusals}
+use Rattle.sheets.specs.Tests.{refuses6}
 use Rattle.sheets.specs.Laws.Tests.{ltb-tells}
-use Rattle.sheets.specs.Laws.RuleRefusals.{Meets1, refuses1-iff, Meets2, refuses2-iff}
-use Rattle.sheets.specs.Laws.QuestionRefusals.{Meets3, refuses3-iff, Meets4, refuses4-iff, Meets5, refuses5-twice, question-arity}
-use Rattle.sheets.specs.Laws.UnionRefusals.{Meets6, refuses6-iff, sound-union}
-use Rattle.sheets.specs.Laws.FactRefusals.{Meets12, refuses12-iff, Meets13, refuses13-iff}
+use Rattle.sheets.specs.Laws.RuleRefusals.{refuses1-iff, refuses2-iff}
+use Rattle.sheets.specs.Laws.QuestionRefusals.{refuses3-iff, refuses4-iff, refuses5-twice, question-arity}
+use Rattle.sheets.specs.Laws.UnionRefusals.{refuses6-iff, sound-union}
+use Rattle.sheets.specs.Laws.FactRefusals.{refuses12-iff, refuses13-iff}
 
 -- ---- on lists of tests
 
@@ -60,12 +61,6 @@ first-positive (e ∷ es) h =
       | false ↦ first-positive es (parts .1)
     ]
 
-decides-append : (es fs : List (ℕ × Bool)) (cs ds : List {1} (ℕ × Type 0)) → Decides es cs → Decides fs ds → Decides (es ++ fs) (cs ++ ds)
-decides-append [] fs [] ds h k = k
-decides-append [] fs (c ∷ cs) ds h k = absurd h
-decides-append (e ∷ es) fs [] ds h k = absurd h
-decides-append (e ∷ es) fs (c ∷ cs) ds h k = (h .0, h .1, decides-append es fs cs ds (h .2) k)
-
 -- numbers of two readings one after the other: a number other than 0 is final
 pub number-stops : (o o′ : Option ℕ) → numberOf o ≢ 0 → numberOf (orElse o o′) ≡ numberOf o
 unfolding numberOf orElse
@@ -75,30 +70,6 @@ number-stops (some n) o′ h = refl
 pub number-goes-on : (o o′ : Option ℕ) → o ≡ none → numberOf (orElse o o′) ≡ numberOf o′
 unfolding orElse
 number-goes-on o o′ e = ap (λ p. numberOf (orElse p o′)) e
-
--- ---- each sheet's own conditions, in 01's words
-
-abbrev pub ruleConditions : List ℕ → List {1} (ℕ × Type 0)
-ruleConditions s = (1, Meets1 s) ∷ (2, Meets2 s) ∷ []
-
-rules-decided : (s : List ℕ) → Decides (ruleRefusals s) (ruleConditions s)
-unfolding ruleRefusals
-rules-decided s = (refl, refuses1-iff s, (refl, refuses2-iff s, tt))
-
-abbrev pub factConditions : ℕ → List ℕ → List {1} (ℕ × Type 0)
-factConditions w s = (12, Meets12 w s) ∷ (13, Meets13 w s) ∷ []
-
-facts-decided : (w : ℕ) (s : List ℕ) → Decides (factRefusals w s) (factConditions w s)
-unfolding factRefusals
-facts-decided w s = (refl, refuses12-iff w s, (refl, refuses13-iff w s, tt))
-
-module _ (partners : List ℕ) (w : ℕ) where
-  abbrev pub questionConditions : List ℕ → List {1} (ℕ × Type 0)
-  questionConditions s = (3, Meets3 w s) ∷ (4, Meets4 (questionAsRead partners w s)) ∷ (5, Meets5 (questionAsRead partners w s)) ∷ []
-
-  question-decided : (s : List ℕ) → Decides (questionRefusals partners w s) (questionConditions s)
-  unfolding questionRefusals
-  question-decided s = (refl, refuses3-iff w s, (refl, refuses4-iff (questionAsRead partners w s), (refl, refuses5-twice (questionAsRead partners w s), tt)))
 
 -- the tests that the check of a union makes, in order
 abbrev pub unionTests : List Rule → Query → UCQ → List (ℕ × Bool)
@@ -110,25 +81,18 @@ unionTests rules q union =
     ∷ (11, refuses11 rules q union)
     ∷ []
 
-union-decided : (rules : List Rule) (q : Query) (union : UCQ) → Decides (unionTests rules q union) (conditions rules q union)
-union-decided rules q union = (
-  refl,
-  refuses7-iff rules q union,
-  (refl, refuses8-iff rules q union, (refl, refuses9-iff rules q union, (refl, refuses10-iff rules q union, (refl, refuses11-iff rules q union, tt)))),
-)
-
 -- ---- the one list
 
 module _ (partners : List ℕ) (w : ℕ) (sheets : Sheets) where
   -- the sheets as read
-  abbrev pub readRules : List Rule
-  readRules = rulesAsRead partners w (sheets .rules)
+  abbrev rules : List Rule
+  rules = readRules partners w sheets
 
-  abbrev pub readQuestion : Query
-  readQuestion = questionAsRead partners w (sheets .question)
+  abbrev question : Query
+  question = readQuestion partners w sheets
 
-  abbrev pub readUnion : UCQ
-  readUnion = unionAsRead partners w (sheets .union)
+  abbrev union : UCQ
+  union = readUnion partners w sheets
 
   -- the union sheet's own test, for the question's number of answer terms
   abbrev pub unionRefusals : List (ℕ × Bool)
@@ -136,7 +100,7 @@ module _ (partners : List ℕ) (w : ℕ) (sheets : Sheets) where
 
   -- "Checking a union uses 1 to 11, drawing answers all."
   pub checking-tests : testsFor partners w checking sheets (refusals partners w)
-      ≡ ruleRefusals (sheets .rules) ++ (questionRefusals partners w (sheets .question) ++ (unionRefusals ++ unionTests readRules readQuestion readUnion))
+      ≡ ruleRefusals (sheets .rules) ++ (questionRefusals partners w (sheets .question) ++ (unionRefusals ++ unionTests rules question union))
   unfolding testsFor refusals ruleRefusals questionRefusals
   checking-tests = refl
 
@@ -146,14 +110,14 @@ module _ (partners : List ℕ) (w : ℕ) (sheets : Sheets) where
 
   -- checking reads rules, question and union, then checks
   pub checking-first : refusalOf partners w checking sheets
-      ≡ orElse (firstRefusal (ruleRefusals (sheets .rules))) (orElse (firstRefusal (questionRefusals partners w (sheets .question))) (orElse (firstRefusal unionRefusals) (check readRules readQuestion readUnion)))
+      ≡ orElse (firstRefusal (ruleRefusals (sheets .rules))) (orElse (firstRefusal (questionRefusals partners w (sheets .question))) (orElse (firstRefusal unionRefusals) (check rules question union)))
   unfolding refusalOf check
   checking-first =
       ap firstRefusal checking-tests
-      ∙ first-append (ruleRefusals (sheets .rules)) (questionRefusals partners w (sheets .question) ++ (unionRefusals ++ unionTests readRules readQuestion readUnion))
+      ∙ first-append (ruleRefusals (sheets .rules)) (questionRefusals partners w (sheets .question) ++ (unionRefusals ++ unionTests rules question union))
       ∙ ap (orElse (firstRefusal (ruleRefusals (sheets .rules))))
-      (first-append (questionRefusals partners w (sheets .question)) (unionRefusals ++ unionTests readRules readQuestion readUnion)
-      ∙ ap (orElse (firstRefusal (questionRefusals partners w (sheets .question)))) (first-append unionRefusals (unionTests readRules readQuestion readUnion)))
+      (first-append (questionRefusals partners w (sheets .question)) (unionRefusals ++ unionTests rules question union)
+      ∙ ap (orElse (firstRefusal (questionRefusals partners w (sheets .question)))) (first-append unionRefusals (unionTests rules question union)))
 
   -- drawing checks, then reads the facts
   pub drawing-first : refusalOf partners w drawing sheets ≡ orElse (refusalOf partners w checking sheets) (firstRefusal (factRefusals w (sheets .facts)))
@@ -179,83 +143,119 @@ module _ (partners : List ℕ) (w : ℕ) (sheets : Sheets) where
 
   -- ---- a call that is not refused
 
-  tests-positive : (takes : Which) (es : List Refusal) → T (all (λ e. ltb 0 (e .number)) es) → T (all (λ e. ltb 0 (e .0)) (testsFor partners w takes sheets es))
-  unfolding all testsFor
+  -- no entry has number 0
+  positive : List {1} Refusal → Bool
+  positive [] = true
+  positive (e ∷ es) = ltb 0 (e .number) && positive es
+
+  tests-positive : (takes : Which) (es : List {1} Refusal) → T (positive es) → T (all (λ e. ltb 0 (e .0)) (testsFor partners w takes sheets es))
+  unfolding all testsFor positive
   tests-positive takes [] h = tt
   tests-positive takes (e ∷ es) h =
-      let parts = T-and (ltb 0 (e .number)) (all (λ e. ltb 0 (e .number)) es) .0 h in
+      let parts = T-and (ltb 0 (e .number)) (positive es) .0 h in
       let rest = tests-positive takes es (parts .1) in
-      elim (within (e .reads) takes) as (λ b. T (all (λ e. ltb 0 (e .0)) (pick b ((e .number, e .test sheets) ∷ testsFor partners w takes sheets es) (testsFor partners w takes sheets es)))) [
+      elim (within (e .reads) takes) as
+      (λ b. T (all (λ e. ltb 0 (e .0)) (pick b ((e .number, e .test sheets) ∷ testsFor partners w takes sheets es) (testsFor partners w takes sheets es)))) [
         | true ↦ T-and (ltb 0 (e .number)) (all (λ e. ltb 0 (e .0)) (testsFor partners w takes sheets es)) .1 (parts .0, rest)
         | false ↦ rest
       ]
 
   -- "A call that isn't refused returns number 0", and one that is refused does not
   pub number-zero : (takes : Which) → (numberOf (refusalOf partners w takes sheets) ≡ 0) ↔ (refusalOf partners w takes sheets ≡ none)
-  unfolding refusalOf refusals all
+  unfolding refusalOf refusals positive
   number-zero takes = first-positive (testsFor partners w takes sheets (refusals partners w)) (tests-positive takes (refusals partners w) tt)
 
   pub checked : (refusalOf partners w checking sheets ≡ none)
       ↔ ((firstRefusal (ruleRefusals (sheets .rules)) ≡ none) × (firstRefusal (questionRefusals partners w (sheets .question)) ≡ none)
-      × (¬ T (refuses6 partners w (termCount (sheets .question) 0) (sheets .union))) × (check readRules readQuestion readUnion ≡ none))
+      × (¬ T (refuses6 partners w (termCount (sheets .question) 0) (sheets .union))) × (check rules question union ≡ none))
   checked =
-      let rules = firstRefusal (ruleRefusals (sheets .rules)) in
-      let question = firstRefusal (questionRefusals partners w (sheets .question)) in
-      let union = firstRefusal unionRefusals in
-      let step = check readRules readQuestion readUnion in
+      let R = firstRefusal (ruleRefusals (sheets .rules)) in
+      let Q = firstRefusal (questionRefusals partners w (sheets .question)) in
+      let U = firstRefusal unionRefusals in
+      let C = check rules question union in
       let six = one-none 6 (refuses6 partners w (termCount (sheets .question) 0) (sheets .union)) in
       Iff·trans (none-along checking-first) (
-        λ e. let r = orElse-none rules (orElse question (orElse union step)) .0 e in
-            let q = orElse-none question (orElse union step) .0 (r .1) in
-            let u = orElse-none union step .0 (q .1) in (r .0, q .0, six .0 (u .0), u .1),
-        λ c. orElse-none rules (orElse question (orElse union step)) .1 (c .0, orElse-none question (orElse union step) .1 (c .1, orElse-none union step .1 (six .1 (c .2), c .3))),
+        λ e. let r = orElse-none R (orElse Q (orElse U C)) .0 e in
+            let q = orElse-none Q (orElse U C) .0 (r .1) in
+            let u = orElse-none U C .0 (q .1) in (r .0, q .0, six .0 (u .0), u .1),
+        λ c. orElse-none R (orElse Q (orElse U C)) .1 (c .0, orElse-none Q (orElse U C) .1 (c .1, orElse-none U C .1 (six .1 (c .2), c .3))),
       )
 
   pub drawn : (refusalOf partners w drawing sheets ≡ none) ↔ ((refusalOf partners w checking sheets ≡ none) × (firstRefusal (factRefusals w (sheets .facts)) ≡ none))
   drawn = Iff·trans (none-along drawing-first) (orElse-none (refusalOf partners w checking sheets) (firstRefusal (factRefusals w (sheets .facts))))
 
   -- what the agreement of both readers asks
-  pub checked-accepted : refusalOf partners w checking sheets ≡ none → SoundUnion readQuestion readUnion × Accepted readRules readQuestion readUnion
+  pub checked-accepted : refusalOf partners w checking sheets ≡ none → SoundUnion question union × Accepted rules question union
   checked-accepted e =
       let c = checked .0 e in
       let not6 = subst (λ arity. ¬ T (refuses6 partners w arity (sheets .union))) (sym (question-arity partners w (sheets .question))) (c .2) in
-      (sound-union partners w (sheets .union) readQuestion not6, check-accepts readRules readQuestion readUnion .0 (c .3))
+      (sound-union partners w (sheets .union) question not6, check-accepts rules question union .0 (c .3))
 
   -- ---- 01's list: "The first entry whose condition holds decides, for the earlier ones not holding."
 
-  abbrev pub checkingConditions : List {1} (ℕ × Type 0)
-  checkingConditions =
-      ruleConditions (sheets .rules)
-      ++ (questionConditions partners w (sheets .question)
-      ++ ((6, Meets6 partners w (termCount (sheets .question) 0) (sheets .union)) ∷ conditions readRules readQuestion readUnion))
+  -- each test passes exactly where its condition holds
+  abbrev EachDecides : List {1} Refusal → Type 0
+  EachDecides [] = Unit {0}
+  EachDecides (e ∷ es) = (T (e .test sheets) ↔ e .condition sheets) × EachDecides es
 
-  abbrev pub drawingConditions : List {1} (ℕ × Type 0)
-  drawingConditions = checkingConditions ++ factConditions w (sheets .facts)
+  every-one : EachDecides (refusals partners w)
+  unfolding refusals
+  every-one = (
+    refuses1-iff (sheets .rules),
+    (
+      refuses2-iff (sheets .rules),
+      (
+        refuses3-iff w (sheets .question),
+        (
+          refuses4-iff question,
+          (
+            refuses5-twice question,
+            (
+              refuses6-iff partners w (termCount (sheets .question) 0) (sheets .union),
+              (
+                refuses7-iff rules question union,
+                (
+                  refuses8-iff rules question union,
+                  (
+                    refuses9-iff rules question union,
+                    (
+                      refuses10-iff rules question union,
+                      (
+                        refuses11-iff rules question union,
+                        (refuses12-iff w (sheets .facts), (refuses13-iff w (sheets .facts), tt)),
+                      ),
+                    ),
+                  ),
+                ),
+              ),
+            ),
+          ),
+        ),
+      ),
+    ),
+  )
 
-  checking-decided : Decides (testsFor partners w checking sheets (refusals partners w)) checkingConditions
-  checking-decided =
-      subst (λ tests. Decides tests checkingConditions) (sym checking-tests)
-      (decides-append (ruleRefusals (sheets .rules)) _ (ruleConditions (sheets .rules)) _ (rules-decided (sheets .rules))
-      (decides-append (questionRefusals partners w (sheets .question)) _ (questionConditions partners w (sheets .question)) _ (question-decided partners w (sheets .question))
-      (refl, refuses6-iff partners w (termCount (sheets .question) 0) (sheets .union), union-decided readRules readQuestion readUnion)))
+  decided : (takes : Which) (es : List {1} Refusal) → EachDecides es → Decides (testsFor partners w takes sheets es) (conditionsFor partners w takes sheets es)
+  unfolding testsFor conditionsFor
+  decided takes [] h = tt
+  decided takes (e ∷ es) h =
+      elim (within (e .reads) takes) as
+      (λ b. Decides (pick b ((e .number, e .test sheets) ∷ testsFor partners w takes sheets es) (testsFor partners w takes sheets es))
+      (pick b ((e .number, e .condition sheets) ∷ conditionsFor partners w takes sheets es) (conditionsFor partners w takes sheets es))) [
+        | true ↦ (refl, h .0, decided takes es (h .1))
+        | false ↦ decided takes es (h .1)
+      ]
 
-  drawing-decided : Decides (testsFor partners w drawing sheets (refusals partners w)) drawingConditions
-  drawing-decided =
-      subst (λ tests. Decides tests drawingConditions) (sym drawing-tests)
-      (decides-append (testsFor partners w checking sheets (refusals partners w)) (factRefusals w (sheets .facts)) checkingConditions (factConditions w (sheets .facts)) checking-decided (facts-decided w (sheets .facts)))
+  -- for whichever sheets a call takes
+  module _ (takes : Which) where
+    -- the conditions of its list
+    abbrev pub conditionsOf : List {1} (ℕ × Type 0)
+    conditionsOf = conditionsFor partners w takes sheets (refusals partners w)
 
-  pub checking-refused-iff : (n : ℕ) → (refusalOf partners w checking sheets ≡ some n) ↔ First checkingConditions n
-  unfolding refusalOf
-  checking-refused-iff n = first-refusal-iff (testsFor partners w checking sheets (refusals partners w)) checkingConditions checking-decided n
+    pub refused-iff : (n : ℕ) → (refusalOf partners w takes sheets ≡ some n) ↔ First conditionsOf n
+    unfolding refusalOf
+    refused-iff n = first-refusal-iff (testsFor partners w takes sheets (refusals partners w)) conditionsOf (decided takes (refusals partners w) every-one) n
 
-  pub checking-passed-iff : (refusalOf partners w checking sheets ≡ none) ↔ NoneHolds checkingConditions
-  unfolding refusalOf
-  checking-passed-iff = no-refusal-iff (testsFor partners w checking sheets (refusals partners w)) checkingConditions checking-decided
-
-  pub drawing-refused-iff : (n : ℕ) → (refusalOf partners w drawing sheets ≡ some n) ↔ First drawingConditions n
-  unfolding refusalOf
-  drawing-refused-iff n = first-refusal-iff (testsFor partners w drawing sheets (refusals partners w)) drawingConditions drawing-decided n
-
-  pub drawing-passed-iff : (refusalOf partners w drawing sheets ≡ none) ↔ NoneHolds drawingConditions
-  unfolding refusalOf
-  drawing-passed-iff = no-refusal-iff (testsFor partners w drawing sheets (refusals partners w)) drawingConditions drawing-decided
+    pub passed-iff : (refusalOf partners w takes sheets ≡ none) ↔ NoneHolds conditionsOf
+    unfolding refusalOf
+    passed-iff = no-refusal-iff (testsFor partners w takes sheets (refusals partners w)) conditionsOf (decided takes (refusals partners w) every-one)

@@ -11,8 +11,9 @@ use lib.Dec.{T, eqb, ltb, ltb→lt, lt→ltb, lit<}
 use Rattle.theory.specs.Lists.{pick}
 use Rattle.theory.specs.Syntax.{Term, var, const, Atom, concept, role, Basic, named, has, hasInverse, Rule, conceptInclusion, roleInclusion}
 use Rattle.theory.specs.Laws.Options.{T-and, T-eqb}
-use Rattle.words.specs.Records.{field, basicOf, ruleOf, termOf, atomOf, factOf, stepOf}
-use Rattle.sheets.specs.Refusals.{isRule, termSound, atomSound, factSound}
+use Rattle.words.specs.Records.{field, isRule, basicOf, ruleIn, termOf, atomOf, factOf, stepOf}
+use Rattle.words.specs.Limits.{sheetWidth}
+use Rattle.sheets.specs.Tests.{termSound, atomSound, factSound}
 use Rattle.sheets.specs.Packing.{bitsAfter, fieldsNumber, formOf, nameOf, ruleFields, ruleNumber, termFields, termNumber, atomNumber, factNumber, stepFields, stepNumber, RuleInRange, TermInRange, AtomInRange, StepInRange, FactInRange, atomFieldsBy, AtomOver}
 
 -- ---- powers
@@ -186,8 +187,8 @@ abbrev rule-by : ℕ → ℕ → ℕ → ℕ → ℕ → Rule
 rule-by k lf ln rf rn = pick (eqb k 1) (conceptInclusion (basicOf lf ln) (basicOf rf rn)) (roleInclusion ln (eqb rf 1) rn)
 
 rule-parts : (x k lf ln rf rn : ℕ) → Has x ((4, k) ∷ (2, lf) ∷ (12, ln) ∷ (2, rf) ∷ (12, rn) ∷ [])
-    → (isRule x ≡ named-fields k lf rf) × (ruleOf x ≡ rule-by k lf ln rf rn)
-unfolding isRule ruleOf
+    → (isRule x ≡ named-fields k lf rf) × (ruleIn x ≡ rule-by k lf ln rf rn)
+unfolding isRule ruleIn
 rule-parts x k lf ln rf rn h =
     let a : field 28 4 x ≡ k = h .0 in
     let b : field 26 2 x ≡ lf = h .1 .0 in
@@ -196,7 +197,7 @@ rule-parts x k lf ln rf rn h =
     let e : field 0 12 x ≡ rn = h .1 .1 .1 .1 .0 in
     (cc, cc)
 
-rule-read : (r : Rule) (x : ℕ) → Has x (ruleFields r) → T (isRule x) × (ruleOf x ≡ r)
+rule-read : (r : Rule) (x : ℕ) → Has x (ruleFields r) → T (isRule x) × (ruleIn x ≡ r)
 rule-read (conceptInclusion left right) x h =
     let e = rule-parts x 1 (formOf left) (nameOf left) (formOf right) (nameOf right) h in
     let forms = T-and (ltb (formOf left) 3) (ltb (formOf right) 3) .1 (lt→ltb (formOf left) 3 (form-below left), lt→ltb (formOf right) 3 (form-below right)) in
@@ -204,8 +205,8 @@ rule-read (conceptInclusion left right) x h =
 rule-read (roleInclusion P true Q) x h = let e = rule-parts x 2 0 P 1 Q h in (rw (e .0) tt, e .1)
 rule-read (roleInclusion P false Q) x h = let e = rule-parts x 2 0 P 0 Q h in (rw (e .0) tt, e .1)
 
-rule-has : (x : ℕ) → T (isRule x) → Has x (ruleFields (ruleOf x))
-unfolding isRule ruleOf
+rule-has : (x : ℕ) → T (isRule x) → Has x (ruleFields (ruleIn x))
+unfolding isRule ruleIn
 rule-has x t = go (eqb k 1) (T-eqb k 1 .0) t
   where
     k : ℕ
@@ -233,11 +234,11 @@ rule-has x t = go (eqb k 1) (T-eqb k 1 .0) t
         let r = T-and (eqb k 2) (eqb lf 0) .0 (s .0) in
         five (T-eqb k 2 .0 (r .0)) (T-eqb lf 0 .0 (r .1)) refl (form-bit rf (ltb→lt rf 2 (s .1))) refl
 
-rule-again : (x : ℕ) → T (isRule x) → Has x (ruleFields (ruleOf x)) × RuleInRange (ruleOf x)
-rule-again x t = (rule-has x t, fit-rule (ruleOf x) (fields-fit x (ruleFields (ruleOf x)) (rule-has x t)))
+rule-again : (x : ℕ) → T (isRule x) → Has x (ruleFields (ruleIn x)) × RuleInRange (ruleIn x)
+rule-again x t = (rule-has x t, fit-rule (ruleIn x) (fields-fit x (ruleFields (ruleIn x)) (rule-has x t)))
 
-pub rule-code : Code (2 ^ 32) ruleOf ruleNumber isRule RuleInRange
-rule-code = by-fields 32 ruleFields ruleOf isRule RuleInRange rule-bits rule-fit (λ r x h l reads. rule-read r x reads) (λ x l t. rule-again x t)
+pub rule-code : Code (2 ^ 32) ruleIn ruleNumber isRule RuleInRange
+rule-code = by-fields 32 ruleFields ruleIn isRule RuleInRange rule-bits rule-fit (λ r x h l reads. rule-read r x reads) (λ x l t. rule-again x t)
 
 -- ---- steps
 
@@ -246,7 +247,7 @@ unfolding stepOf
 step-code =
     by-fields 32 stepFields stepOf (λ x. true) StepInRange (λ s. refl) (λ s h. omega arith)
     (λ s x h l reads. (tt, λ i. record { kind = reads .0 i; parent = reads .1 .0 i; atom = reads .1 .1 .0 i; other = reads .1 .1 .1 .0 i }))
-    (λ x l t. ((refl, (refl, (refl, (refl, tt)))), (field-below 30 2 x, field-below 20 10 x, field-below 16 4 x, field-below 0 16 x)))
+    (λ x l t. ((refl, (refl, (refl, (refl, tt)))), (field-below 30 2 x, field-below 20 10 x, field-below sheetWidth 4 x, field-below 0 16 x)))
 
 -- ---- terms, and objects
 

@@ -11,9 +11,10 @@ use lib.ListN.{length, getD, length-append, length-map}
 use Rattle.theory.specs.Lists.{all}
 use Rattle.theory.specs.Syntax.{Query}
 use Rattle.sheets.specs.Bits.{numberAt}
-use Rattle.sheets.specs.Format.{answerBytes, recordBytes, termCount, atomCount, questionLength, answerRecords, atomRecords, queryAt}
+use Rattle.words.specs.Limits.{answerBytes, recordBytes}
+use Rattle.sheets.specs.Format.{termCount, atomCount, questionLength, answerRecords, atomRecords, queryAt}
 use Rattle.words.specs.Records.{termOf, atomOf}
-use Rattle.sheets.specs.Refusals.{termSound, answerSound, atomSound, questionSound, refuses3}
+use Rattle.sheets.specs.Tests.{termSound, answerSound, atomSound, questionSound, refuses3}
 use Rattle.sheets.specs.Packing.{bytesOf, fieldsNumber, termNumber, atomNumber, packQuery, All, IsByte, TermInRange, AtomInRange, QueryInRange, WholeBytes}
 use Rattle.sheets.specs.Laws.Tests.{itself, not-tells, and-tells, or-tells, eqb-tells, leb-tells, ltb-tells, records-length}
 use Rattle.sheets.specs.Laws.PackingBytes.{Stands, stands-whole, stands-all, stands-first, stands-second, stands-append, stands-byte, byte-stands, number-then, number-append, length-number, Row, all-at}

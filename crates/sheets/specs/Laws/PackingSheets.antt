@@ -14,11 +14,13 @@ use Rattle.theory.specs.Syntax.{Rule, Fact}
 use Rattle.theory.specs.Laws.Options.{T-no}
 use Rattle.theory.specs.Laws.Lists.{all-iff, map-after}
 use Rattle.sheets.specs.Bits.{numberAt}
-use Rattle.sheets.specs.Format.{rulesOf, factsOf, answerBytes, recordBytes}
-use Rattle.words.specs.Records.{factOf}
-use Rattle.sheets.specs.Refusals.{refuses1, refuses2, refuses12, factSound, refuses13}
+use Rattle.sheets.specs.Format.{recordsFrom, ruleRecords, rulesOf, factsOf}
+use Rattle.words.specs.Limits.{sheetWidth, wordWidth, mostRules, mostFacts, ruleBytes, answerBytes, recordBytes}
+use Rattle.words.specs.Records.{isRule, ruleIn, factOf}
+use Rattle.sheets.specs.Tests.{refuses1, refuses2, refuses12, factSound, refuses13}
 use Rattle.sheets.specs.Packing.{packRecords, packRules, factNumber, packFacts, All, IsByte, RuleInRange, RulesInRange, FactInRange, FactsInRange, WholeBytes}
 use Rattle.sheets.specs.Laws.Tests.{Tells, itself, not-tells, or-tells, eqb-tells, ltb-tells, records-length}
+use Rattle.sheets.specs.Laws.RuleRefusals.{rules-all}
 use Rattle.sheets.specs.Laws.PackingBytes.{Stands, stands-whole, stands-all, number-below, length-records, recordsAt, Row, records-read, records-stand}
 use Rattle.sheets.specs.Laws.PackingNumbers.{Code, rule-code, fact-code, pow-add}
 
@@ -73,21 +75,21 @@ module _ {X : Type 0} {of : ℕ → X} {number : X → ℕ} {sound : ℕ → Boo
 
   -- a sheet of nothing but such records: its records, and what they say
   abbrev records : List ℕ → List ℕ
-  records s = recordsAt s (λ i. size * i) size 0 (length s / size)
+  records s = recordsAt s (λ i. 0 + size * i) size 0 (length s / size)
 
   abbrev values : List ℕ → List X
   values s = map of (records s)
 
-  whole-row : Row (λ i. size * i) size 0 0
-  whole-row i = ap (λ j. size * j) (zero-add i) ∙ sym (zero-add (size * i))
+  whole-row : Row (λ i. 0 + size * i) size 0 0
+  whole-row i = ap (λ j. 0 + size * j) (zero-add i)
 
   values-count : (s : List ℕ) → length (values s) ≡ length s / size
-  values-count s = length-map (records s) of ∙ records-length (λ i. numberAt s (size * i) size) (length s / size)
+  values-count s = length-map (records s) of ∙ records-length (λ i. numberAt s (0 + size * i) size) (length s / size)
 
   sheet-read : 0 < size → (vs : List X) → All InRange vs → (values (pack vs) ≡ vs) × T (all sound (records (pack vs)))
   sheet-read pos vs h =
       let n : length (pack vs) / size ≡ length vs = ap (λ k. k / size) (length-pack vs) ∙ mul-div-cancel-left (length vs) pos in
-      list-read (pack vs) (λ i. size * i) 0 whole-row (length (pack vs) / size) vs n h (stands-whole (pack vs))
+      list-read (pack vs) (λ i. 0 + size * i) 0 whole-row (length (pack vs) / size) vs n h (stands-whole (pack vs))
 
   sheet-passes : (most : ℕ) (vs : List X) → 0 < size → length vs ≤ most → All InRange vs
       → (¬ T (wrongLength size most (pack vs))) × (¬ T (not (all sound (records (pack vs)))))
@@ -102,34 +104,39 @@ module _ {X : Type 0} {of : ℕ → X} {number : X → ℕ} {sound : ℕ → Boo
       let e = right-length size most s .0 f in
       let n : size * (length s / size) ≡ length s = sym (add-zero (size * (length s / size))) ∙ ap (λ r. size * (length s / size) + r) (sym (e .0)) ∙ div-add-mod (length s) size in
       let len : length (pack (values s)) ≡ length s = length-pack (values s) ∙ ap (λ k. size * k) (values-count s) ∙ n in
-      let r = list-again s (λ i. size * i) 0 whole-row (length s / size) bytes (omega arith) (unmet (not-tells (itself (all sound (records s)))) .0 g) in
+      let r = list-again s (λ i. 0 + size * i) 0 whole-row (length s / size) bytes (omega arith) (unmet (not-tells (itself (all sound (records s)))) .0 g) in
       (stands-all (pack (values s)) s (r .0) (omega arith), rw (values-count s) (div-le-of-le-mul size (e .1)), r .1)
 
 -- ---- rules
 
 pub packed-rules-read : (rules : List Rule) → All RuleInRange rules → rulesOf (packRules rules) ≡ rules
-unfolding rulesOf packRules
-packed-rules-read rules h = sheet-read 4 rule-code (lit< tt) rules h .0
+unfolding recordsFrom packRules
+packed-rules-read rules h = let r = sheet-read ruleBytes rule-code (lit< tt) rules h in rules-all (packRules rules) (r .1) ∙ r .0
 
 pub packed-rules-pass : (rules : List Rule) → RulesInRange rules → (¬ T (refuses1 (packRules rules))) × (¬ T (refuses2 (packRules rules)))
-unfolding packRules refuses1 refuses2
-packed-rules-pass rules h = sheet-passes 4 rule-code 512 rules (lit< tt) (h .0) (h .1)
+unfolding recordsFrom packRules refuses1 refuses2
+packed-rules-pass rules h = sheet-passes ruleBytes rule-code mostRules rules (lit< tt) (h .0) (h .1)
 
-pub read-rules-packed : (s : List ℕ) → All IsByte s → ¬ T (refuses1 s) → ¬ T (refuses2 s) → packRules (rulesOf s) ≡ s
-unfolding packRules rulesOf refuses1 refuses2
-read-rules-packed s bytes f g = sheet-again 4 rule-code 512 s bytes f g .0
+module _ (s : List ℕ) (bytes : All IsByte s) (not1 : ¬ T (refuses1 s)) (not2 : ¬ T (refuses2 s)) where
+  all-rules : rulesOf s ≡ map ruleIn (ruleRecords s)
+  unfolding refuses2
+  all-rules = rules-all s (unmet (not-tells (itself (all isRule (ruleRecords s)))) .0 not2)
 
-pub read-rules-in : (s : List ℕ) → All IsByte s → ¬ T (refuses1 s) → ¬ T (refuses2 s) → RulesInRange (rulesOf s)
-unfolding rulesOf refuses1 refuses2
-read-rules-in s bytes f g = let r = sheet-again 4 rule-code 512 s bytes f g in (r .1, r .2)
+  pub read-rules-packed : packRules (rulesOf s) ≡ s
+  unfolding packRules recordsFrom refuses1 refuses2
+  read-rules-packed = ap packRules all-rules ∙ sheet-again ruleBytes rule-code mostRules s bytes not1 not2 .0
+
+  pub read-rules-in : RulesInRange (rulesOf s)
+  unfolding recordsFrom refuses1 refuses2
+  read-rules-in = let r = sheet-again ruleBytes rule-code mostRules s bytes not1 not2 in subst RulesInRange (sym all-rules) (r .1, r .2)
 
 -- ---- widths
 
-pub whole-16 : WholeBytes 16
-whole-16 = (1, refl)
+pub whole-sheet : WholeBytes sheetWidth
+whole-sheet = (1, refl)
 
-pub whole-24 : WholeBytes 24
-whole-24 = (2, refl)
+pub whole-word : WholeBytes wordWidth
+whole-word = (2, refl)
 
 bytes-bits : (n : ℕ) → 256 ^ n ≡ 2 ^ (8 * n)
 bytes-bits zero = refl
@@ -161,12 +168,12 @@ module _ (w : ℕ) (whole : WholeBytes w) where
 
   pub packed-facts-pass : (facts : List Fact) → FactsInRange w facts → (¬ T (refuses12 w (packFacts w facts))) × (¬ T (refuses13 w (packFacts w facts)))
   unfolding packFacts refuses12 refuses13
-  packed-facts-pass facts h = sheet-passes (recordBytes w) facts-code 10000 facts record-pos (h .0) (h .1)
+  packed-facts-pass facts h = sheet-passes (recordBytes w) facts-code mostFacts facts record-pos (h .0) (h .1)
 
   pub read-facts-packed : (s : List ℕ) → All IsByte s → ¬ T (refuses12 w s) → ¬ T (refuses13 w s) → packFacts w (factsOf w s) ≡ s
   unfolding packFacts factsOf refuses12 refuses13
-  read-facts-packed s bytes f g = sheet-again (recordBytes w) facts-code 10000 s bytes f g .0
+  read-facts-packed s bytes f g = sheet-again (recordBytes w) facts-code mostFacts s bytes f g .0
 
   pub read-facts-in : (s : List ℕ) → All IsByte s → ¬ T (refuses12 w s) → ¬ T (refuses13 w s) → FactsInRange w (factsOf w s)
   unfolding factsOf refuses12 refuses13
-  read-facts-in s bytes f g = let r = sheet-again (recordBytes w) facts-code 10000 s bytes f g in (r .1, r .2)
+  read-facts-in s bytes f g = let r = sheet-again (recordBytes w) facts-code mostFacts s bytes f g in (r .1, r .2)

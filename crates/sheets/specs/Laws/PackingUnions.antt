@@ -17,7 +17,7 @@ use Rattle.sheets.specs.Bits.{numberAt}
 use Rattle.sheets.specs.Format.{termCount, queryAt, memberCount, memberStart, memberAt, unionOf}
 use Rattle.words.specs.Records.{stepOf}
 use Rattle.sheets.specs.Partners.{queryAsRead}
-use Rattle.sheets.specs.Refusals.{questionSound, refuses4, refuses5, memberSound, refuses6}
+use Rattle.sheets.specs.Tests.{questionSound, refuses4, refuses5, memberSound, refuses6}
 use Rattle.sheets.specs.Packing.{bytesOf, packQuery, stepNumber, packMember, packUnion, All, IsByte, MemberInRange, UnionInRange, WholeBytes}
 use Rattle.sheets.specs.Laws.Tests.{itself, by-pass, not-tells, and-tells, or-tells, eqb-tells, leb-tells, records-length}
 use Rattle.sheets.specs.Laws.PackingBytes.{Stands, stands-nil, stands-whole, stands-all, stands-first, stands-second, stands-append, number-below, number-stands, number-first, number-then, number-append, length-number}

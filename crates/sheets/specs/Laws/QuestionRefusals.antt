@@ -1,7 +1,7 @@
 -- What refusals 3, 4 and 5 mean. w is the width of an object's number, 16 on 01's sheets; `at` is the byte at which a question begins.
 use mathlib.Core.Path.{_≡_, refl, sym, _∙_, subst}
 use mathlib.Core.Logic.{_⊎_, inl, inr, _↔_, Iff·rfl, Iff·symm, Iff·trans}
-use Prim.Native.Nat.{ℕ, zero, suc, _+_, _*_, _/_, _%_, _^_, _≤_, _<_, zero-le, suc-le-suc}
+use Prim.Native.Nat.{ℕ, zero, suc, _+_, _/_, _%_, _^_, _≤_, _<_, zero-le, suc-le-suc}
 use native.Mathlib.Nat.{le-of-suc-le-suc, not-suc-le-zero}
 use native.Mathlib.Omega.{arith}
 use mathlib.Core.Bool.{Bool, true, false, not}
@@ -14,36 +14,21 @@ use Rattle.theory.specs.Union.{Safe}
 use Rattle.theory.specs.Laws.Options.{T-or, T-no, either, none≢some, some-inj}
 use Rattle.theory.specs.Laws.Lists.{here, at-mem, mem-at}
 use Rattle.theory.specs.Laws.Syntax.{sameTerm-iff, sameAtom-iff, places-mem, mem-places}
-use Rattle.words.specs.Records.{field, termOf, atomOf}
-use Rattle.sheets.specs.Format.{termCount, atomCount, questionLength, answerRecords, atomRecords, queryAt}
+use Rattle.words.specs.Limits.{variableBound, mostTerms, mostAtoms}
+use Rattle.words.specs.Records.{termOf, atomKind, atomZero, atomName, atomFirst, atomSecond, atomOf}
+use Rattle.sheets.specs.Format.{recordsFrom, termCount, atomCount, questionLength, answerRecords, atomRecords, queryAt}
 use Rattle.sheets.specs.Partners.{atomAsRead, queryAsRead}
-use Rattle.sheets.specs.Refusals.{termSound, answerSound, atomSound, questionSound, refuses3, covered, refuses4, repeats, refuses5, questionAsRead}
+use Rattle.sheets.specs.Reading.{questionAsRead}
+use Rattle.sheets.specs.Tests.{termSound, answerSound, atomSound, questionSound, refuses3, covered, refuses4, repeats, refuses5}
+use Rattle.sheets.specs.Conditions.{AtomBitSet, VariableOut, Malformed, Meets3, Meets4, Twice, Meets5}
 use Rattle.sheets.specs.Laws.Tests.{sum-iff, sum-assoc, sum-crossed, some-either, Tells, itself, by-fail, not-tells, or-tells, and-tells, pick-tells, eqb-tells, leb-tells, ltb-tells, lt-or-le, all-tells, stands-tells, records-length}
 use Rattle.sheets.specs.Laws.PartnerLaws.{terms-asRead}
 
 -- ---- 3
 
--- a count out of range: answer terms are "0 to 4", atoms "1 to 8"
-abbrev pub CountOut : List ℕ → ℕ → Type 0
-CountOut s at = (4 < termCount s at) ⊎ (atomCount s at ≡ 0) ⊎ (8 < atomCount s at)
-
--- an atom's "1 zero bit" is set, or a concept atom's second term is not "all zero bits"
-abbrev pub AtomBitSet : ℕ → ℕ → Type 0
-AtomBitSet w x = (¬ (field (2 * w + 14) 1 x ≡ 0)) ⊎ ((field (2 * w + 15) 1 x ≡ 0) × (¬ (field 0 (w + 1) x ≡ 0)))
-
--- a set bit that must be zero, in an answer term or in an atom
-abbrev pub BitSet : ℕ → List ℕ → ℕ → Type 0
-BitSet w s at =
-    ((x : ℕ) × (x ∈ answerRecords w s at) × (2 ^ (w + 1) ≤ x))
-    ⊎ ((x : ℕ) × (x ∈ atomRecords w s at) × AtomBitSet w x)
-
--- a variable above 31, in an answer term or in an atom
-abbrev pub VariableOut : ℕ → List ℕ → ℕ → Type 0
-VariableOut w s at = (v : ℕ) × (var v ∈ terms (queryAt w s at)) × (31 < v)
-
 -- a variable above 31 among these terms
 abbrev Above : List Term → Type 0
-Above ts = (v : ℕ) × (var v ∈ ts) × (31 < v)
+Above ts = (v : ℕ) × (var v ∈ ts) × (variableBound ≤ v)
 
 above-append : (ts us : List Term) → Above (ts ++ us) ↔ (Above ts ⊎ Above us)
 above-append ts us = (
@@ -64,7 +49,7 @@ above-places f xs = (
   λ w. let (v, m, l) = w .2 in (v, mem-places (map f xs) (Memᴰ·map f (w .1)) m, l),
 )
 
-above-term : (b : Bool) (n : ℕ) → Above (pick b (var n) (const n) ∷ []) ↔ (T b × (31 < n))
+above-term : (b : Bool) (n : ℕ) → Above (pick b (var n) (const n) ∷ []) ↔ (T b × (variableBound ≤ n))
 above-term true n = (λ w. (let e : var (w .0) ≡ var n = List·Memᴰ·eq-of-singleton (w .1) in (let d : w .0 ≡ n = cc in (tt, omega arith))), λ w. (n, here, w .1))
 above-term false n = (λ w. absurd (let e : var (w .0) ≡ const n = List·Memᴰ·eq-of-singleton (w .1) in let z : _≡_ {A = ℕ} 0 1 = cc in omega arith), λ w. absurd (w .0))
 
@@ -75,7 +60,7 @@ above-atom false n t u h = Iff·trans (above-append (t ∷ []) (u ∷ [])) (sum-
 termSound-tells : (w t : ℕ) → Tells (termSound w t) (¬ Above (termOf w t ∷ [])) (Above (termOf w t ∷ []))
 unfolding termSound termOf
 termSound-tells w t =
-    let parts = or-tells (not-tells (itself (eqb (t / 2 ^ w) 0))) (ltb-tells (t % 2 ^ w) 32) in
+    let parts = or-tells (not-tells (itself (eqb (t / 2 ^ w) 0))) (ltb-tells (t % 2 ^ w) variableBound) in
     by-fail (termSound w t) (Iff·trans (parts .fail) (Iff·symm (above-term (eqb (t / 2 ^ w) 0) (t % 2 ^ w))))
 
 answerSound-tells : (w x : ℕ) → Tells (answerSound w x) ((x < 2 ^ (w + 1)) × (¬ Above (termOf w x ∷ []))) ((2 ^ (w + 1) ≤ x) ⊎ Above (termOf w x ∷ []))
@@ -85,11 +70,11 @@ answerSound-tells w x = and-tells (ltb-tells x (2 ^ (w + 1))) (termSound-tells w
 atomSound-tells : (w x : ℕ) → Tells (atomSound w x) (¬ (AtomBitSet w x ⊎ Above (args (atomOf w x)))) (AtomBitSet w x ⊎ Above (args (atomOf w x)))
 unfolding atomSound atomOf
 atomSound-tells w x =
-    let isConcept = eqb-tells (field (2 * w + 15) 1 x) 0 in
-    let first : ℕ = field (w + 1) (w + 1) x in
-    let second : ℕ = field 0 (w + 1) x in
-    let parts = and-tells (and-tells (eqb-tells (field (2 * w + 14) 1 x) 0) (termSound-tells w first)) (pick-tells isConcept (eqb-tells second 0) (termSound-tells w second)) in
-    let above = above-atom (eqb (field (2 * w + 15) 1 x) 0) (field (2 * w + 2) 12 x) (termOf w first) (termOf w second) isConcept in
+    let isConcept = eqb-tells (atomKind w x) 0 in
+    let first : ℕ = atomFirst w x in
+    let second : ℕ = atomSecond w x in
+    let parts = and-tells (and-tells (eqb-tells (atomZero w x) 0) (termSound-tells w first)) (pick-tells isConcept (eqb-tells second 0) (termSound-tells w second)) in
+    let above = above-atom (eqb (atomKind w x) 0) (atomName w x) (termOf w first) (termOf w second) isConcept in
     by-fail (atomSound w x) (Iff·trans (parts .fail) (Iff·trans sum-crossed (sum-iff Iff·rfl (Iff·symm above))))
 
 variables-by-record : (w : ℕ) (s : List ℕ) (at : ℕ)
@@ -99,14 +84,10 @@ variables-by-record w s at =
     Iff·trans (above-append (map (termOf w) (answerRecords w s at)) (places (map (atomOf w) (atomRecords w s at))))
     (sum-iff (above-map (termOf w) (answerRecords w s at)) (above-places (atomOf w) (atomRecords w s at)))
 
--- a count out of range, a set bit that must be zero, or a variable above 31
-abbrev pub Malformed : ℕ → List ℕ → ℕ → Type 0
-Malformed w s at = CountOut s at ⊎ BitSet w s at ⊎ VariableOut w s at
-
 pub questionSound-tells : (w : ℕ) (s : List ℕ) (at : ℕ) → Tells (questionSound w s at) (¬ Malformed w s at) (Malformed w s at)
 unfolding questionSound
 questionSound-tells w s at =
-    let counts = and-tells (and-tells (leb-tells (termCount s at) 4) (leb-tells 1 (atomCount s at))) (leb-tells (atomCount s at) 8) in
+    let counts = and-tells (and-tells (leb-tells (termCount s at) mostTerms) (leb-tells 1 (atomCount s at))) (leb-tells (atomCount s at) mostAtoms) in
     let parts = and-tells (and-tells counts (all-tells (answerSound-tells w) (answerRecords w s at))) (all-tells (atomSound-tells w) (atomRecords w s at)) in
     by-fail (questionSound w s at)
     (Iff·trans (parts .fail)
@@ -114,10 +95,6 @@ questionSound-tells w s at =
     (sum-iff (Iff·trans sum-assoc (sum-iff Iff·rfl (sum-iff (λ l. omega arith, λ e. omega arith) Iff·rfl)))
     (Iff·trans (sum-iff (some-either (answerRecords w s at)) (some-either (atomRecords w s at)))
     (Iff·trans sum-crossed (sum-iff Iff·rfl (Iff·symm (variables-by-record w s at))))))))
-
--- 3: "The question has a count out of range, a set bit that must be zero, a variable above 31, or a wrong length."
-abbrev pub Meets3 : ℕ → List ℕ → Type 0
-Meets3 w s = CountOut s 0 ⊎ BitSet w s 0 ⊎ VariableOut w s 0 ⊎ (¬ (length s ≡ questionLength w s 0))
 
 pub refuses3-iff : (w : ℕ) (s : List ℕ) → T (refuses3 w s) ↔ Meets3 w s
 unfolding refuses3
@@ -128,10 +105,6 @@ refuses3-iff w s =
     )
 
 -- ---- 4
-
--- 4: "An answer variable stands in no atom of the question."
-abbrev pub Meets4 : Query → Type 0
-Meets4 q = (v : ℕ) × (var v ∈ q .answers) × (¬ (var v ∈ places (q .atoms)))
 
 -- the term is a variable that stands in none of the atoms
 abbrev Missing : List (Atom Term) → Term → Type 0
@@ -160,10 +133,6 @@ not4-safe q h v m =
 
 -- ---- 5
 
--- one atom at two places
-abbrev Twice : List (Atom Term) → Type 0
-Twice atoms = (i j : ℕ) × (a : Atom Term) × (i < j) × At atoms i a × At atoms j a
-
 unrepeated-iff : (atoms : List (Atom Term)) → T (not (repeats atoms)) ↔ Unrepeated atoms
 unfolding repeats
 unrepeated-iff [] = (λ t. tt, λ u. tt)
@@ -186,10 +155,6 @@ twice-repeats (b ∷ rest) zero (suc j) a l e f =
     T-or (any (sameAtom b) rest) (repeats rest) .1 (inl (stands-tells sameAtom sameAtom-iff b rest .pass .1 (Memᴰ·cast (some-inj e) (at-mem rest j f))))
 twice-repeats (b ∷ rest) (suc i) (suc j) a l e f = T-or (any (sameAtom b) rest) (repeats rest) .1 (inr (twice-repeats rest i j a (le-of-suc-le-suc l) e f))
 
--- 5: "The question, as read, has one atom twice."
-abbrev pub Meets5 : Query → Type 0
-Meets5 q = Twice (q .atoms)
-
 pub refuses5-twice : (q : Query) → T (refuses5 q) ↔ Meets5 q
 unfolding refuses5
 refuses5-twice q = (repeats-twice (q .atoms), λ (i, j, a, l, e, f). twice-repeats (q .atoms) i j a l e f)
@@ -211,24 +176,24 @@ not3-iff w s =
     (Iff·trans (or-tells (not-tells (eqb-tells (length s) (questionLength w s 0))) (not-tells (questionSound-tells w s 0)) .fail) (λ h. (h .1, h .0), λ h. (h .1, h .0)))
 
 module _ (w : ℕ) (s : List ℕ) (at : ℕ) (sound : ¬ Malformed w s at) where
-  pub counts-in-range : (termCount s at ≤ 4) × (1 ≤ atomCount s at) × (atomCount s at ≤ 8)
+  pub counts-in-range : (termCount s at ≤ mostTerms) × (1 ≤ atomCount s at) × (atomCount s at ≤ mostAtoms)
   counts-in-range = (
-    elim (lt-or-le 4 (termCount s at)) [ inl l ↦ absurd (sound (inl (inl l))) | inr l ↦ l ],
+    elim (lt-or-le mostTerms (termCount s at)) [ inl l ↦ absurd (sound (inl (inl l))) | inr l ↦ l ],
     elim (lt-or-le 0 (atomCount s at)) [ inl l ↦ l | inr l ↦ absurd (sound (inl (inr (inl (omega arith))))) ],
-    elim (lt-or-le 8 (atomCount s at)) [ inl l ↦ absurd (sound (inl (inr (inr l)))) | inr l ↦ l ],
+    elim (lt-or-le mostAtoms (atomCount s at)) [ inl l ↦ absurd (sound (inl (inr (inr l)))) | inr l ↦ l ],
   )
 
-  pub variables-in-range : (partners : List ℕ) (v : ℕ) → var v ∈ terms (queryAsRead partners (queryAt w s at)) → v < 32
+  pub variables-in-range : (partners : List ℕ) (v : ℕ) → var v ∈ terms (queryAsRead partners (queryAt w s at)) → v < variableBound
   variables-in-range partners v m =
       elim (lt-or-le 31 v) [ inl l ↦ absurd (sound (inr (inr (v, terms-asRead partners (queryAt w s at) .0 m, l)))) | inr l ↦ suc-le-suc l ]
 
 -- as many answer terms and atoms as the counts say
 pub query-arity : (partners : List ℕ) (w : ℕ) (s : List ℕ) (at : ℕ) → length (queryAsRead partners (queryAt w s at) .answers) ≡ termCount s at
-unfolding queryAsRead queryAt answerRecords
+unfolding queryAsRead queryAt recordsFrom
 query-arity partners w s at = length-map (answerRecords w s at) (termOf w) ∙ records-length _ (termCount s at)
 
 pub query-size : (partners : List ℕ) (w : ℕ) (s : List ℕ) (at : ℕ) → length (queryAsRead partners (queryAt w s at) .atoms) ≡ atomCount s at
-unfolding queryAsRead queryAt atomRecords
+unfolding queryAsRead queryAt recordsFrom
 query-size partners w s at = length-map (map (atomOf w) (atomRecords w s at)) (atomAsRead partners) ∙ length-map (atomRecords w s at) (atomOf w) ∙ records-length _ (atomCount s at)
 
 pub question-arity : (partners : List ℕ) (w : ℕ) (s : List ℕ) → length (questionAsRead partners w s .answers) ≡ termCount s 0

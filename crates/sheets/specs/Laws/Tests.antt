@@ -9,7 +9,7 @@ use mathlib.Core.List.{List, [], _∷_, map, List·Memᴰ·head, List·Memᴰ·t
 use lib.Dec.{T, eqb, leb, ltb, leb→le, le→leb, nleb→lt}
 use lib.ListN.{length, length-map}
 use Rattle.theory.specs.Lists.{_∈_, pick, any, all, numbers}
-use Rattle.theory.specs.Laws.Options.{T-no, T-eqb, either}
+use Rattle.theory.specs.Laws.Options.{T-no, T-eqb, either, same-test}
 use Rattle.theory.specs.Laws.Lists.{here, all-iff, any-same}
 
 -- ---- sums
@@ -86,6 +86,10 @@ pick-tells {c = false} c h k = record {
 
 pub eqb-tells : (m n : ℕ) → Tells (eqb m n) (m ≡ n) (¬ (m ≡ n))
 eqb-tells m n = by-pass (eqb m n) (T-eqb m n)
+
+-- two numbers are compared either way round
+pub eqb-comm : (m n : ℕ) → eqb m n ≡ eqb n m
+eqb-comm m n = same-test (eqb m n) (eqb n m) (λ t. T-eqb n m .1 (sym (T-eqb m n .0 t)), λ t. T-eqb m n .1 (sym (T-eqb n m .0 t)))
 
 pub leb-tells : (m n : ℕ) → Tells (leb m n) (m ≤ n) (n < m)
 leb-tells m n = record {

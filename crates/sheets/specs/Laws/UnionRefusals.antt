@@ -1,6 +1,6 @@
 -- What refusal 6 means, where the members of a union begin, and what a union that does not meet 6 is good for.
 use mathlib.Core.Path.{_≡_, ap, _∙_, subst}
-use mathlib.Core.Logic.{_⊎_, inl, inr, _↔_, Iff·rfl, Iff·symm, Iff·trans}
+use mathlib.Core.Logic.{inl, inr, _↔_, Iff·rfl, Iff·symm, Iff·trans}
 use Prim.Native.Nat.{ℕ, zero, suc, _+_, _≤_, _<_}
 use native.Mathlib.Nat.{le-of-eq, le-of-suc-le-suc, not-suc-le-zero, eq-or-lt-of-le}
 use native.Mathlib.Omega.{arith}
@@ -11,11 +11,14 @@ use Rattle.theory.specs.Lists.{_∈_, numbers}
 use Rattle.theory.specs.Syntax.{Query, Member}
 use Rattle.theory.specs.Union.{SoundQuery, SoundUnion}
 use Rattle.theory.specs.Laws.Options.{T-no}
-use Rattle.sheets.specs.Format.{termCount, queryAt, memberCount, memberStart, memberAt, unionOf}
-use Rattle.sheets.specs.Partners.{queryAsRead, memberAsRead}
-use Rattle.sheets.specs.Refusals.{refuses4, refuses5, memberSound, refuses6, unionAsRead}
+use Rattle.words.specs.Limits.{mostMembers}
+use Rattle.sheets.specs.Format.{termCount, memberCount, memberStart, questionStart, memberAt, unionOf}
+use Rattle.sheets.specs.Partners.{memberAsRead}
+use Rattle.sheets.specs.Reading.{unionAsRead}
+use Rattle.sheets.specs.Tests.{refuses4, refuses5, memberSound, refuses6}
 use Rattle.sheets.specs.Laws.Tests.{sum-iff, sum-assoc, Tells, in-words, by-pass, not-tells, or-tells, and-tells, eqb-tells, leb-tells, all-tells, numbers-iff, record-at}
-use Rattle.sheets.specs.Laws.QuestionRefusals.{Malformed, questionSound-tells, Meets4, refuses4-iff, not4-safe, Meets5, refuses5-twice, not5-unrepeated, query-arity}
+use Rattle.sheets.specs.Laws.QuestionRefusals.{questionSound-tells, refuses4-iff, not4-safe, refuses5-twice, not5-unrepeated, query-arity}
+use Rattle.sheets.specs.Conditions.{Malformed, Meets4, Meets5, memberQuestion, MemberUnsound, Meets6}
 
 -- ---- where members begin
 
@@ -34,22 +37,6 @@ start-rises w s i (suc j) l =
 
 -- ---- 6
 
--- where the question of member j begins, and that question as read
-abbrev pub questionStart : ℕ → List ℕ → ℕ → ℕ
-questionStart w s j = memberStart w s j + 4
-
-abbrev pub memberQuestion : List ℕ → ℕ → List ℕ → ℕ → Query
-memberQuestion partners w s j = queryAsRead partners (queryAt w s (questionStart w s j))
-
--- "a member would meet 3, 4 or 5, or a member's answer-term count differs from the question's", which is the arity. A member's
--- question is as long as its counts say, so that it has no wrong length of its own.
-abbrev pub MemberUnsound : List ℕ → ℕ → ℕ → List ℕ → ℕ → Type 0
-MemberUnsound partners w arity s j =
-    Malformed w s (questionStart w s j)
-    ⊎ Meets4 (memberQuestion partners w s j)
-    ⊎ Meets5 (memberQuestion partners w s j)
-    ⊎ (¬ (termCount s (questionStart w s j) ≡ arity))
-
 -- none of these
 abbrev pub MemberSound : List ℕ → ℕ → ℕ → List ℕ → ℕ → Type 0
 MemberSound partners w arity s j =
@@ -58,19 +45,11 @@ MemberSound partners w arity s j =
     × (¬ Meets5 (memberQuestion partners w s j))
     × (termCount s (questionStart w s j) ≡ arity)
 
--- 6: "The union's count is out of range, its bytes end early or run on, a member would meet 3, 4 or 5, or a member's answer-term
--- count differs from the question's."
-abbrev pub Meets6 : List ℕ → ℕ → ℕ → List ℕ → Type 0
-Meets6 partners w arity s =
-    ((memberCount s ≡ 0) ⊎ (512 < memberCount s))
-    ⊎ (¬ (memberStart w s (memberCount s) ≡ length s))
-    ⊎ ((j : ℕ) × (j < memberCount s) × MemberUnsound partners w arity s j)
-
 -- a count "1 to 512", members that are together as long as the sheet, and each of them sound
 abbrev pub Not6 : List ℕ → ℕ → ℕ → List ℕ → Type 0
 Not6 partners w arity s =
     (1 ≤ memberCount s)
-    × (memberCount s ≤ 512)
+    × (memberCount s ≤ mostMembers)
     × (memberStart w s (memberCount s) ≡ length s)
     × ((j : ℕ) → j < memberCount s → MemberSound partners w arity s j)
 
@@ -88,7 +67,7 @@ module _ (partners : List ℕ) (w arity : ℕ) (s : List ℕ) where
   refuses6-tells : Tells (refuses6 partners w arity s) (Meets6 partners w arity s) (Not6 partners w arity s)
   unfolding refuses6
   refuses6-tells =
-      let count = and-tells (leb-tells 1 (memberCount s)) (leb-tells (memberCount s) 512) in
+      let count = and-tells (leb-tells 1 (memberCount s)) (leb-tells (memberCount s) mostMembers) in
       let size = eqb-tells (memberStart w s (memberCount s)) (length s) in
       let members = all-tells memberSound-tells (numbers 0 (memberCount s)) in
       in-words (or-tells (or-tells (not-tells count) (not-tells size)) (not-tells members))

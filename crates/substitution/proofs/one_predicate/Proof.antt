@@ -1,4 +1,4 @@
-use Rattle.substitution.proofs.SubstitutionLaws.{atomLaws}
+use Rattle.substitution.proofs.SubstitutionLaws.{unifyLaws}
 use Rattle.substitution.proofs.one_predicate.Statement.{statement}
 use Rattle.substitution.proofs.one_predicate.Tie as tie
 
@@ -6,5 +6,5 @@ pub one-predicate-spec : {M : Type 1} → statement M
 one-predicate-spec =
     tie.close
     (tie.spec
-    (λ c κs. search atomLaws) (λ c κs. search atomLaws) (λ c κs. search atomLaws) (λ c κs. search atomLaws) (λ c. search atomLaws)
-    (λ c. search atomLaws))
+    (λ c. search unifyLaws) (λ c. search unifyLaws) (λ c. search unifyLaws) (λ c. search unifyLaws) (λ c. search unifyLaws)
+    (λ c. search unifyLaws))

@@ -1,4 +1,4 @@
-use Rattle.substitution.proofs.SubstitutionLaws.{atomLaws}
+use Rattle.substitution.proofs.SubstitutionLaws.{unifyLaws}
 use Rattle.substitution.proofs.unify.Statement.{statement}
 use Rattle.substitution.proofs.unify.Tie as tie
 
@@ -6,6 +6,6 @@ pub unify-spec : {M : Type 1} → statement M
 unify-spec =
     tie.close
     (tie.spec
-    (λ c κs. search atomLaws) (λ c κs. search atomLaws) (λ c κs. search atomLaws) (λ c κs. search atomLaws)
-    (λ c κs. search atomLaws) (λ c κs. search atomLaws) (λ c. search atomLaws) (λ c κs. search atomLaws) (λ c κs. search atomLaws)
-    (λ c κs. search atomLaws) (λ c. search atomLaws) (λ c. search atomLaws))
+    (λ c. search unifyLaws) (λ c. search unifyLaws) (λ c. search unifyLaws) (λ c. search unifyLaws)
+    (λ c. search unifyLaws) (λ c. search unifyLaws) (λ c. search unifyLaws) (λ c. search unifyLaws)
+    (λ c. search unifyLaws) (λ c. search unifyLaws) (λ c. search unifyLaws) (λ c. search unifyLaws))

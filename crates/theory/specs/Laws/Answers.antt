@@ -10,7 +10,7 @@ use Rattle.theory.specs.Lists.{_∈_}
 use Rattle.theory.specs.Syntax.{Member, UCQ, Fact}
 use Rattle.theory.specs.Chase.{Round, FirstReader}
 use Rattle.theory.specs.Union.{Safe}
-use Rattle.theory.specs.Evaluation.{found, before, insertTuple, answersOf}
+use Rattle.theory.specs.Evaluation.{found, before, Before, insertTuple, answersOf}
 use Rattle.theory.specs.Laws.Options.{pick-true, pick-false, T-and, T-or, T-eqb, three-ways}
 use Rattle.theory.specs.Laws.Lists.{flatMap-found, flatMap-of}
 use Rattle.theory.specs.Laws.Ascending.{Ascending, Inserts, ascending-unique, inserted-mem, mem-inserted, inserted-ascending}
@@ -78,10 +78,6 @@ before-total (x ∷ xs) (y ∷ ys) =
     ]
 
 -- ---- a tuple put in its place
-
--- the test as a relation
-abbrev pub Before : List ℕ → List ℕ → Type 0
-Before s t = T (before s t)
 
 pub insertTuple-inserts : Inserts Before insertTuple
 unfolding insertTuple

@@ -2,40 +2,18 @@
 use mathlib.Core.Path.{_≡_, refl, sym, ap, _∙_, subst}
 use mathlib.Core.Logic.{_⊎_, inl, inr, _↔_}
 use Prim.Native.Nat.{ℕ}
-use mathlib.Core.Bool.{Bool, _&&_}
 use mathlib.Core.Option.{Option, none, some}
 use mathlib.Core.List.{List, [], _∷_, List·Memᴰ·tail, List·Memᴰ·not-nil, List·Memᴰ·cases-cons, Memᴰ·cast}
 use lib.Dec.{T, eqb}
-use Rattle.theory.specs.Lists.{_∈_, Unrepeated, any, all, without, pairwise, isSome, Pairs, lookup}
-use Rattle.theory.specs.Syntax.{Term, var, const, Atom, Query, terms, mapAtom, rename, onAtoms}
+use Rattle.theory.specs.Lists.{_∈_, Unrepeated, any, all, without, isSome, Pairs, lookup}
+use Rattle.theory.specs.Syntax.{Term, var, const, Query, terms, rename}
 use Rattle.theory.specs.Renaming.{Alike, variables, mayGo, mayBe, promising, complete, findRenaming, alike}
-use Rattle.theory.specs.Laws.Options.{T-and, T-no, T-eqb, some-inj, none≢some, isSome-some, tested-found, tested-of}
-use Rattle.theory.specs.Laws.Lists.{here, forall-cons, any-iff, mem-without, without-mem, all-any-iff, pairwise-image, image-pairwise, firstSome-found, firstSome-of}
+use Rattle.theory.specs.Laws.Options.{T-no, T-eqb, some-inj, none≢some, isSome-some, tested-found, tested-of}
+use Rattle.theory.specs.Laws.Lists.{here, forall-cons, any-iff, mem-without, without-mem, firstSome-found, firstSome-of}
 use Rattle.theory.specs.Laws.Lookup.{Assigned, lookup-head, lookup-cons, assigned-cons, lookup-found, mem-assigned}
-use Rattle.theory.specs.Laws.Syntax.{onAtoms-iff, onAtoms-within, onAtoms-map, terms-atoms, terms-answers}
 use Rattle.theory.specs.Laws.Equivalence.{term-into}
+use Rattle.theory.specs.Laws.Promising.{promising-renaming, renaming-promising}
 use Rattle.theory.specs.Laws.Variables.{variables-unrepeated, variables-mem, mem-variables}
-
--- ---- what the test of pairs means
-
--- what `promising` tests: each answer term may be its partner, each atom of the one may be some atom of the other
-abbrev Promising : Query → Query → Pairs → Type 0
-Promising p q ps =
-    T (pairwise (mayBe ps) (p .answers) (q .answers))
-    × ((a : Atom Term) → a ∈ p .atoms → (b : Atom Term) × (b ∈ q .atoms) × T (onAtoms (mayBe ps) a b))
-    × ((b : Atom Term) → b ∈ q .atoms → (a : Atom Term) × (a ∈ p .atoms) × T (onAtoms (mayBe ps) a b))
-
-promising-iff : (p q : Query) (ps : Pairs) → T (promising p q ps) ↔ Promising p q ps
-unfolding promising
-promising-iff p q ps =
-    let answers : Bool = pairwise (mayBe ps) (p .answers) (q .answers) in
-    let into : Bool = all (λ a. any (λ b. onAtoms (mayBe ps) a b) (q .atoms)) (p .atoms) in
-    let onto : Bool = all (λ b. any (λ a. onAtoms (mayBe ps) a b) (p .atoms)) (q .atoms) in
-    let into-iff = all-any-iff (λ a b. onAtoms (mayBe ps) a b) (p .atoms) (q .atoms) in
-    let onto-iff = all-any-iff (λ b a. onAtoms (mayBe ps) a b) (q .atoms) (p .atoms) in (
-      λ t. (let s = T-and (answers && into) onto .0 t in let r = T-and answers into .0 (s .0) in (r .0, into-iff .0 (r .1), onto-iff .0 (s .1))),
-      λ t. T-and (answers && into) onto .1 (T-and answers into .1 (t .0, into-iff .1 (t .1)), onto-iff .1 (t .2)),
-    )
 
 -- ---- what the search gives is a renaming
 
@@ -61,17 +39,20 @@ untaken-cons v w free ps f x m u d =
     elim (lookup-cons (v, w) ps u d) [ inl h ↦ k .1 (T-eqb w x .1 (h .1)) | inr h ↦ f x (k .0) u h ]
 
 -- what `complete` gives is promising and one-to-one, and assigns all sources and what was assigned before
-complete-found : (p q : Query) (sources free : List ℕ) (ps : Pairs) {found : Pairs} → T (promising p q ps) → OneToOne ps → Untaken free ps → complete p q sources free ps ≡ some found
-    → T (promising p q found) × OneToOne found × ((v : ℕ) → (v ∈ sources) ⊎ Assigned ps v → Assigned found v)
+complete-found : (p q : Query) (sources free : List ℕ) (ps : Pairs) {found : Pairs} → T (promising (mayBe ps) p q) → OneToOne ps
+    → Untaken free ps → complete p q sources free ps ≡ some found
+    → T (promising (mayBe found) p q) × OneToOne found × ((v : ℕ) → (v ∈ sources) ⊎ Assigned ps v → Assigned found v)
 unfolding complete
 complete-found p q [] free ps t o f e =
-    subst (λ (r : Pairs). T (promising p q r) × OneToOne r × ((v : ℕ) → (v ∈ []) ⊎ Assigned ps v → Assigned r v)) (some-inj e)
+    subst (λ (r : Pairs). T (promising (mayBe r) p q) × OneToOne r × ((v : ℕ) → (v ∈ []) ⊎ Assigned ps v → Assigned r v)) (some-inj e)
     (t, o, λ v c. elim c [ inl m ↦ absurd (List·Memᴰ·not-nil m) | inr a ↦ a ])
 complete-found p q (v ∷ sources) free ps t o f e =
     let r = firstSome-found _ free e in
     let w : ℕ = r .0 in
-    let s = tested-found (promising p q ((v, w) ∷ ps)) (complete p q sources (without (eqb w) free) ((v, w) ∷ ps)) (r .2) in
-    let below = complete-found p q sources (without (eqb w) free) ((v, w) ∷ ps) (s .0) (one-to-one-cons v w ps o (f w (r .1))) (untaken-cons v w free ps f) (s .1) in (
+    let s = tested-found (promising (mayBe ((v, w) ∷ ps)) p q) (complete p q sources (without (eqb w) free) ((v, w) ∷ ps)) (r .2) in
+    let below =
+    complete-found p q sources (without (eqb w) free) ((v, w) ∷ ps) (s .0) (one-to-one-cons v w ps o (f w (r .1)))
+    (untaken-cons v w free ps f) (s .1) in (
       below .0,
       below .1,
       λ u c. below .2 u (elim c [
@@ -99,34 +80,21 @@ mayBe-image ps (const c) (var w) h t = absurd t
 mayBe-image ps (const c) (const d) h t = ap const (T-eqb c d .0 t)
 
 -- promising one-to-one pairs that assign every variable of p are a renaming
-renaming-of : (p q : Query) (ps : Pairs) → T (promising p q ps) → OneToOne ps → ((v : ℕ) → var v ∈ terms p → Assigned ps v) → Alike p q
+renaming-of : (p q : Query) (ps : Pairs) → T (promising (mayBe ps) p q) → OneToOne ps → ((v : ℕ) → var v ∈ terms p → Assigned ps v)
+    → Alike p q
 renaming-of p q ps t o assigned =
-    record {
-      to = target ps;
-      one-to-one = λ u v m n e. (let a = assigned u m in let b = assigned v n in
-          o u v (a .0) (a .1) (b .1 ∙ ap some (sym (target-is ps v (b .0) (b .1)) ∙ sym e ∙ target-is ps u (a .0) (a .1))));
-      on-answers = pairwise-image (mayBe ps) (rename (target ps)) (p .answers) (q .answers) (λ s t m. image s t (terms-answers p m)) (r .0);
-      into = λ a m. (let b = r .1 a m in Memᴰ·cast (image-atom a (b .0) m (b .2)) (b .1));
-      onto = λ b m. (let a = r .2 b m in (a .0, a .1, image-atom (a .0) b (a .1) (a .2)));
-    }
-  where
-    r : Promising p q ps
-    r = promising-iff p q ps .0 t
-
-    image : (s t : Term) → s ∈ terms p → T (mayBe ps s t) → rename (target ps) s ≡ t
-    image s t m = mayBe-image ps s t (λ v e. assigned v (Memᴰ·cast (sym e) m))
-
-    image-atom : (a b : Atom Term) → a ∈ p .atoms → T (onAtoms (mayBe ps) a b) → mapAtom (rename (target ps)) a ≡ b
-    image-atom a b m t =
-        onAtoms-map (rename (target ps)) a b .0
-        (onAtoms-within a b (λ s t n. image s t (terms-atoms p m n)) (onAtoms-iff (mayBe ps) a b .0 t))
+    promising-renaming (mayBe ps) p q (target ps)
+    (λ u v m n e. let a = assigned u m in let b = assigned v n in
+    o u v (a .0) (a .1) (b .1 ∙ ap some (sym (target-is ps v (b .0) (b .1)) ∙ sym e ∙ target-is ps u (a .0) (a .1))))
+    (λ s t m. mayBe-image ps s t (λ v e. assigned v (Memᴰ·cast (sym e) m))) t
 
 alike-sound : (p q : Query) → T (alike p q) → Alike p q
 unfolding alike lookup
 alike-sound p q t =
     let r = isSome-some (findRenaming p q) .0 t in
-    let s = tested-found (promising p q []) (complete p q (variables (terms p)) (variables (terms q)) []) (r .1) in
-    let c = complete-found p q (variables (terms p)) (variables (terms q)) [] (s .0) (λ u v w d. absurd (none≢some d)) (λ w m v d. none≢some d) (s .1) in
+    let s = tested-found (promising (mayBe []) p q) (complete p q (variables (terms p)) (variables (terms q)) []) (r .1) in
+    let c = complete-found p q (variables (terms p)) (variables (terms q)) [] (s .0)
+    (λ u v w d. absurd (none≢some d)) (λ w m v d. none≢some d) (s .1) in
     renaming-of p q (r .0) (c .0) (c .1) (λ v m. c .2 v (inl (mem-variables (terms p) m)))
 
 -- ---- where there is a renaming the search gives one
@@ -154,26 +122,17 @@ module _ (p q : Query) (r : Alike p q) where
           T-eqb w (r .to v) .1 (sym (h .3) ∙ sym (f (h .0) (h .1) .1) ∙ ap (r .to) (h .2))
   follows-mayBe ps f (const c) m = T-eqb c c .1 refl
 
-  follows-promising : (ps : Pairs) → Follows ps → T (promising p q ps)
-  follows-promising ps f =
-      promising-iff p q ps .1 (
-        subst (λ ts. T (pairwise (mayBe ps) (p .answers) ts)) (r .on-answers) (image-pairwise (mayBe ps) (rename (r .to)) (p .answers) (λ t m. follows-mayBe ps f t (terms-answers p m))),
-        λ a m. (mapAtom (rename (r .to)) a, r .into a m, on-atom a (mapAtom (rename (r .to)) a) m refl),
-        λ b m. (let a = r .onto b m in (a .0, a .1, on-atom (a .0) b (a .1) (a .2))),
-      )
-    where
-      on-atom : (a b : Atom Term) → a ∈ p .atoms → mapAtom (rename (r .to)) a ≡ b → T (onAtoms (mayBe ps) a b)
-      on-atom a b m e =
-          onAtoms-iff (mayBe ps) a b .1
-          (onAtoms-within a b (λ s t n d. subst (λ t. T (mayBe ps s t)) d (follows-mayBe ps f s (terms-atoms p m n))) (onAtoms-map (rename (r .to)) a b .1 e))
+  follows-promising : (ps : Pairs) → Follows ps → T (promising (mayBe ps) p q)
+  follows-promising ps f = renaming-promising (mayBe ps) p q r (follows-mayBe ps f)
 
   -- such pairs can be completed, as long as the sources left stand in p, each once, and their targets are free
-  complete-gives : (sources free : List ℕ) (ps : Pairs) → Follows ps → Unrepeated sources → ((v : ℕ) → v ∈ sources → (var v ∈ terms p) × (r .to v ∈ free)) → T (isSome (complete p q sources free ps))
+  complete-gives : (sources free : List ℕ) (ps : Pairs) → Follows ps → Unrepeated sources
+      → ((v : ℕ) → v ∈ sources → (var v ∈ terms p) × (r .to v ∈ free)) → T (isSome (complete p q sources free ps))
   unfolding complete isSome
   complete-gives [] free ps f u h = tt
   complete-gives (v ∷ sources) free ps f u h =
       firstSome-of _ (h v here .1)
-      (tested-of (promising p q next) (complete p q sources (without (eqb (r .to v)) free) next)
+      (tested-of (promising (mayBe next) p q) (complete p q sources (without (eqb (r .to v)) free) next)
       (follows-promising next follows) (complete-gives sources (without (eqb (r .to v)) free) next follows (u .1) left))
     where
       next : Pairs
@@ -193,7 +152,7 @@ module _ (p q : Query) (r : Alike p q) where
 alike-complete : (p q : Query) → Alike p q → T (alike p q)
 unfolding alike
 alike-complete p q r =
-    tested-of (promising p q []) (complete p q (variables (terms p)) (variables (terms q)) []) (follows-promising p q r [] none-yet)
+    tested-of (promising (mayBe []) p q) (complete p q (variables (terms p)) (variables (terms q)) []) (follows-promising p q r [] none-yet)
     (complete-gives p q r (variables (terms p)) (variables (terms q)) [] none-yet
     (variables-unrepeated (terms p)) (λ v m. (let n = variables-mem (terms p) m in (n, mem-variables (terms q) (term-into p q r n)))))
   where

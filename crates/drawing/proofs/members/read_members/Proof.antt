@@ -1,4 +1,4 @@
-use Rattle.drawing.proofs.MembersLaws.{laws, not-zero}
+use Rattle.drawing.proofs.MembersLaws.{laws}
 use Rattle.drawing.proofs.members.read_members.Statement.{statement}
 use Rattle.drawing.proofs.members.read_members.Tie as tie
 
@@ -7,6 +7,6 @@ read-members-spec =
     tie.close
     (tie.spec
     (λ c κs. search laws)
-    (λ c. search laws) (λ c. (search laws, (search laws, not-zero _ (search laws))))
+    (λ c. search laws) (λ c. (search laws, search laws))
     (λ c. search laws) (λ c κs. (search laws, search laws, search laws, search laws))
-    (λ c. search laws) (λ c. (search laws, (search laws, λ z. (search laws, search laws)))))
+    (λ c. search laws) (λ c. (search laws, search laws)))

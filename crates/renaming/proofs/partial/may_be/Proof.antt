@@ -1,6 +1,10 @@
-use Rattle.renaming.proofs.PartialLaws.{laws}
+use Rattle.renaming.proofs.PartialLaws.{termLaws}
 use Rattle.renaming.proofs.partial.may_be.Statement.{statement}
 use Rattle.renaming.proofs.partial.may_be.Tie as tie
 
 pub may-be-spec : {M : Type 1} → statement M
-may-be-spec = tie.close (tie.spec (λ c. search laws) (λ c. search laws) (λ c κs. search laws) (λ c. search laws) (λ c. search laws) (λ c. search laws))
+may-be-spec =
+    tie.close
+    (tie.spec
+    (λ c. search termLaws) (λ c. search termLaws) (λ c. search termLaws) (λ c. search termLaws) (λ c. search termLaws)
+    (λ c. search termLaws))

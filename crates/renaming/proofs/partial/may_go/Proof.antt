@@ -1,6 +1,9 @@
-use Rattle.renaming.proofs.PartialLaws.{laws}
+use Rattle.renaming.proofs.PartialLaws.{termLaws}
 use Rattle.renaming.proofs.partial.may_go.Statement.{statement}
 use Rattle.renaming.proofs.partial.may_go.Tie as tie
 
 pub may-go-spec : {M : Type 1} → statement M
-may-go-spec = tie.close (tie.spec (λ c. search laws) (λ c. search laws) (λ c κs. search laws) (λ c. search laws) (λ c. search laws))
+may-go-spec =
+    tie.close
+    (tie.spec
+    (λ c. search termLaws) (λ c. search termLaws) (λ c. search termLaws) (λ c. search termLaws) (λ c. search termLaws))

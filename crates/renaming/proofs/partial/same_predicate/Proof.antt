@@ -1,6 +1,10 @@
-use Rattle.renaming.proofs.PartialLaws.{laws}
+use Rattle.renaming.proofs.PartialLaws.{atomLaws}
 use Rattle.renaming.proofs.partial.same_predicate.Statement.{statement}
 use Rattle.renaming.proofs.partial.same_predicate.Tie as tie
 
 pub same-predicate-spec : {M : Type 1} → statement M
-same-predicate-spec = tie.close (tie.spec (λ c κs. search laws) (λ c κs. search laws) (λ c κs. search laws) (λ c κs. search laws) (λ c. search laws) (λ c. search laws))
+same-predicate-spec =
+    tie.close
+    (tie.spec
+    (λ c. search atomLaws) (λ c. search atomLaws) (λ c. search atomLaws) (λ c. search atomLaws) (λ c. search atomLaws)
+    (λ c. search atomLaws))

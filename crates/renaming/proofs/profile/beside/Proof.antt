@@ -11,4 +11,9 @@ abbrev μ-loop : tie.MeasureT-loop
 μ-loop v atoms n set₀ i₀ set i = n - i
 
 pub beside-spec : {M : Type 1} → statement M
-beside-spec = tie.close (tie.spec Inv-loop μ-loop (λ c. search laws) (λ c. search laws) (λ c. search laws) (λ c κs. search laws) (λ c. search laws) (λ c. search laws) (λ c κs. search laws) (λ c. search laws) (λ c. search laws) (λ c. search laws) (λ c. search laws) (λ c. search laws) (λ c. search laws) (λ c. search laws))
+beside-spec =
+    tie.close
+    (tie.spec
+    Inv-loop μ-loop (λ c. search laws) (λ c. search laws) (λ c. search laws) (λ c. search laws) (λ c. search laws) (λ c. search laws)
+    (λ c. search laws) (λ c. search laws) (λ c. search laws) (λ c. search laws) (λ c. search laws) (λ c. search laws) (λ c. search laws)
+    (λ c. search laws))

@@ -3,4 +3,4 @@ use Rattle.renaming.proofs.profile.beside_alike.Statement.{statement}
 use Rattle.renaming.proofs.profile.beside_alike.Tie as tie
 
 pub beside-alike-spec : {M : Type 1} → statement M
-beside-alike-spec = tie.close (tie.spec (λ c κs. search laws) (λ c κs. search laws) (λ c r i e. search laws))
+beside-alike-spec = tie.close (tie.spec (λ c. search laws) (λ c. search laws) (λ c r i e. search laws))

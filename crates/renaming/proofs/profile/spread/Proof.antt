@@ -1,15 +1,20 @@
 use Prim.Native.Nat.{_-_, _≤_}
 use Rattle.renaming.specs.Gathered.{samePredicate}
-use Rattle.words.specs.Records.{atomOf}
 use Rattle.renaming.proofs.ProfileLaws.{laws, Gathering}
 use Rattle.renaming.proofs.profile.spread.Statement.{statement}
 use Rattle.renaming.proofs.profile.spread.Tie as tie
+use Rattle.words.specs.Words.{wordAtom}
 
 abbrev Inv-loop : tie.InvT-loop
-Inv-loop a atoms n set₀ i₀ set i = (i ≤ n) × Gathering (samePredicate (atomOf 24 a)) n atoms set i
+Inv-loop a atoms n set₀ i₀ set i = (i ≤ n) × Gathering (samePredicate (wordAtom a)) n atoms set i
 
 abbrev μ-loop : tie.MeasureT-loop
 μ-loop a atoms n set₀ i₀ set i = n - i
 
 pub spread-spec : {M : Type 1} → statement M
-spread-spec = tie.close (tie.spec Inv-loop μ-loop (λ c. search laws) (λ c. search laws) (λ c. search laws) (λ c κs. search laws) (λ c. search laws) (λ c. search laws) (λ c κs. search laws) (λ c. search laws) (λ c. search laws) (λ c. search laws) (λ c. search laws) (λ c. search laws) (λ c. search laws) (λ c. search laws))
+spread-spec =
+    tie.close
+    (tie.spec
+    Inv-loop μ-loop (λ c. search laws) (λ c. search laws) (λ c. search laws) (λ c. search laws) (λ c. search laws) (λ c. search laws)
+    (λ c. search laws) (λ c. search laws) (λ c. search laws) (λ c. search laws) (λ c. search laws) (λ c. search laws) (λ c. search laws)
+    (λ c. search laws))

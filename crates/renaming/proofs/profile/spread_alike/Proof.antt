@@ -10,4 +10,8 @@ abbrev μ-loop : tie.MeasureT-loop
 μ-loop p q atoms n i₀ i = n - i
 
 pub spread-alike-spec : {M : Type 1} → statement M
-spread-alike-spec = tie.close (tie.spec Inv-loop μ-loop (λ c. search laws) (λ c. search laws) (λ c. search laws) (λ c κs. search laws) (λ c. search laws) (λ c. search laws) (λ c κs. search laws) (λ c. search laws) (λ c. search laws) (λ c. search laws) (λ c r. search laws) (λ c. search laws))
+spread-alike-spec =
+    tie.close
+    (tie.spec
+    Inv-loop μ-loop (λ c. search laws) (λ c. search laws) (λ c. search laws) (λ c. search laws) (λ c. search laws) (λ c. search laws)
+    (λ c. search laws) (λ c. search laws) (λ c. search laws) (λ c. search laws) (λ c r. search laws) (λ c. search laws))

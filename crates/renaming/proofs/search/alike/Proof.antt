@@ -3,4 +3,7 @@ use Rattle.renaming.proofs.search.alike.Statement.{statement}
 use Rattle.renaming.proofs.search.alike.Tie as tie
 
 pub alike-spec : {M : Type 1} → statement M
-alike-spec = tie.close (tie.spec (λ c κs. search laws) (λ c κs. search laws) (λ c κs. search laws) (λ c κs. search laws) (λ c. search laws) (λ c. search laws))
+alike-spec =
+    tie.close
+    (tie.spec
+    (λ c. search laws) (λ c. search laws) (λ c. search laws) (λ c. search laws) (λ c. search laws) (λ c. search laws))

@@ -3,4 +3,7 @@ use Rattle.renaming.proofs.search.found.Statement.{statement}
 use Rattle.renaming.proofs.search.found.Tie as tie
 
 pub found-spec : {M : Type 1} → statement M
-found-spec = tie.close (tie.spec (λ c κs. search laws) (λ c κs. search laws) (λ c κs. search laws) (λ c. search laws) (λ c. search laws) (λ c. search laws))
+found-spec =
+    tie.close
+    (tie.spec
+    (λ c. search laws) (λ c. search laws) (λ c. search laws) (λ c. search laws) (λ c. search laws) (λ c. search laws))

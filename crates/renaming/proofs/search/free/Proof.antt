@@ -3,4 +3,4 @@ use Rattle.renaming.proofs.search.free.Statement.{statement}
 use Rattle.renaming.proofs.search.free.Tie as tie
 
 pub free-spec : {M : Type 1} → statement M
-free-spec = tie.close (tie.spec (λ c κs. search laws) (λ c κs. search laws) (λ c. search laws) (λ c. search laws))
+free-spec = tie.close (tie.spec (λ c. search laws) (λ c. search laws) (λ c. search laws) (λ c. search laws))

@@ -10,4 +10,9 @@ abbrev μ-loop : tie.MeasureT-loop
 μ-loop s v m p q x₀ x = 32 - x
 
 pub has-target-spec : {M : Type 1} → statement M
-has-target-spec = tie.close (tie.spec Inv-loop μ-loop (λ c. search laws) (λ c κs. search laws) (λ c κs. search laws) (λ c κs. search laws) (λ c. search laws) (λ c. search laws) (λ c. search laws) (λ c. (search laws, search past-unpromising)) (λ c. search laws) (λ c. search laws) (λ c. search laws) (λ c. search laws))
+has-target-spec =
+    tie.close
+    (tie.spec
+    Inv-loop μ-loop (λ c. search laws) (λ c. search laws) (λ c. search laws) (λ c. search laws) (λ c. search laws) (λ c. search laws)
+    (λ c. search laws) (λ c. (search laws, search past-unpromising)) (λ c. search laws) (λ c. search laws) (λ c. search laws)
+    (λ c. search laws))

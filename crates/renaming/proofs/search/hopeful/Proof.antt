@@ -10,4 +10,8 @@ abbrev μ-loop : tie.MeasureT-loop
 μ-loop s look n m v₀ v = 32 - v
 
 pub hopeful-spec : {M : Type 1} → statement M
-hopeful-spec = tie.close (tie.spec Inv-loop μ-loop (λ c. search laws) (λ c κs. search laws) (λ c. search laws) (λ c. search laws) (λ c. search laws) (λ c. search laws) (λ c. search laws))
+hopeful-spec =
+    tie.close
+    (tie.spec
+    Inv-loop μ-loop (λ c. search laws) (λ c. search laws) (λ c. search laws) (λ c. search laws) (λ c. search laws) (λ c. search laws)
+    (λ c. search laws))

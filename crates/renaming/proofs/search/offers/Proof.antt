@@ -3,4 +3,4 @@ use Rattle.renaming.proofs.search.offers.Statement.{statement}
 use Rattle.renaming.proofs.search.offers.Tie as tie
 
 pub offers-spec : {M : Type 1} → statement M
-offers-spec = tie.close (tie.spec (λ c κs. search laws) (λ c κs. search laws) (λ c. search laws) (λ c. search laws))
+offers-spec = tie.close (tie.spec (λ c. search laws) (λ c. search laws) (λ c. search laws) (λ c. search laws))

@@ -3,4 +3,7 @@ use Rattle.renaming.proofs.search.still_open.Statement.{statement}
 use Rattle.renaming.proofs.search.still_open.Tie as tie
 
 pub still-open-spec : {M : Type 1} → statement M
-still-open-spec = tie.close (tie.spec (λ c κs. search laws) (λ c κs. search laws) (λ c κs. search laws) (λ c. search laws) (λ c. search laws) (λ c. search laws))
+still-open-spec =
+    tie.close
+    (tie.spec
+    (λ c. search laws) (λ c. search laws) (λ c. search laws) (λ c. search laws) (λ c. search laws) (λ c. search laws))

@@ -3,8 +3,7 @@ use Prim.Native.Nat.{_-_, _≤_}
 use mathlib.Core.List.{map}
 use lib.ListN.{length, take}
 use Rattle.theory.specs.Syntax.{subst-term}
-use Rattle.words.specs.Records.{termOf}
-use Rattle.words.specs.Words.{TermWords}
+use Rattle.words.specs.Words.{TermWords, wordTerm}
 use Rattle.substitution.specs.Substitutions.{substOf}
 use Rattle.rewriting.proofs.StepLaws.{fillLaws}
 use Rattle.rewriting.proofs.steps.apply_answers.Statement.{statement}
@@ -13,7 +12,7 @@ use Rattle.rewriting.proofs.steps.apply_answers.Tie as tie
 abbrev Inv-loop : tie.InvT-loop
 Inv-loop s answers n words₀ i₀ words i =
     (i ≤ n) × (length words ≡ 4) × TermWords words
-    × (map (termOf 24) (take i words) ≡ map (subst-term (substOf s)) (map (termOf 24) (take i answers)))
+    × (map wordTerm (take i words) ≡ map (subst-term (substOf s)) (map wordTerm (take i answers)))
 
 abbrev μ-loop : tie.MeasureT-loop
 μ-loop s answers n words₀ i₀ words i = n - i
@@ -22,6 +21,6 @@ pub apply-answers-spec : {M : Type 1} → statement M
 apply-answers-spec =
     tie.close
     (tie.spec
-    Inv-loop μ-loop (λ c. search fillLaws) (λ c. search fillLaws) (λ c. search fillLaws) (λ c κs. search fillLaws)
+    Inv-loop μ-loop (λ c. search fillLaws) (λ c. search fillLaws) (λ c. search fillLaws) (λ c. search fillLaws)
     (λ c. search fillLaws) (λ c. search fillLaws) (λ c. search fillLaws) (λ c. search fillLaws)
     (λ c. (search fillLaws, search fillLaws, search fillLaws, search fillLaws)) (λ c. search fillLaws))

@@ -3,7 +3,7 @@ use Prim.Native.Nat.{_-_, _≤_}
 use mathlib.Core.List.{map}
 use lib.ListN.{length, take}
 use Rattle.theory.specs.Syntax.{mapAtom, subst-term}
-use Rattle.words.specs.Records.{atomOf}
+use Rattle.words.specs.Words.{wordAtom}
 use Rattle.substitution.specs.Substitutions.{substOf}
 use Rattle.rewriting.proofs.StepLaws.{fillLaws}
 use Rattle.rewriting.proofs.steps.apply_atoms.Statement.{statement}
@@ -12,7 +12,7 @@ use Rattle.rewriting.proofs.steps.apply_atoms.Tie as tie
 abbrev Inv-loop : tie.InvT-loop
 Inv-loop s atoms n words₀ i₀ words i =
     (i ≤ n) × (length words ≡ 8)
-    × (map (atomOf 24) (take i words) ≡ map (mapAtom (subst-term (substOf s))) (map (atomOf 24) (take i atoms)))
+    × (map wordAtom (take i words) ≡ map (mapAtom (subst-term (substOf s))) (map wordAtom (take i atoms)))
 
 abbrev μ-loop : tie.MeasureT-loop
 μ-loop s atoms n words₀ i₀ words i = n - i
@@ -21,6 +21,6 @@ pub apply-atoms-spec : {M : Type 1} → statement M
 apply-atoms-spec =
     tie.close
     (tie.spec
-    Inv-loop μ-loop (λ c. search fillLaws) (λ c. search fillLaws) (λ c. search fillLaws) (λ c κs. search fillLaws)
-    (λ c. search fillLaws) (λ c. search fillLaws) (λ c. search fillLaws) (λ c. search fillLaws) (λ c. search fillLaws)
-    (λ c. search fillLaws))
+    Inv-loop μ-loop (λ c. search fillLaws) (λ c. search fillLaws) (λ c. search fillLaws) (λ c. search fillLaws)
+    (λ c. search fillLaws) (λ c. search fillLaws) (λ c. search fillLaws) (λ c. search fillLaws)
+    (λ c. (search fillLaws, search fillLaws, search fillLaws)) (λ c. search fillLaws))

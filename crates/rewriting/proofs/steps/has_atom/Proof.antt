@@ -1,12 +1,15 @@
 use mathlib.Core.Path.{_≡_}
 use Prim.Native.Nat.{_-_}
-use Rattle.rewriting.proofs.StepLaws.{onceLaws, atomFrom}
+use Rattle.theory.specs.Syntax.{sameAtom}
+use Rattle.theory.specs.Laws.Scans.{someFrom, testAt}
+use Rattle.words.specs.Words.{wordAtom}
+use Rattle.rewriting.proofs.StepLaws.{onceLaws}
 use Rattle.rewriting.proofs.steps.has_atom.Statement.{statement}
 use Rattle.rewriting.proofs.steps.has_atom.Tie as tie
 
 abbrev Inv-loop : tie.InvT-loop
 Inv-loop a atoms n i₀ i =
-    atomFrom a n atoms i ≡ atomFrom a n atoms 0
+    someFrom (testAt (sameAtom (wordAtom a)) wordAtom atoms) i n ≡ someFrom (testAt (sameAtom (wordAtom a)) wordAtom atoms) 0 n
 
 abbrev μ-loop : tie.MeasureT-loop
 μ-loop a atoms n i₀ i = n - i
@@ -15,5 +18,5 @@ pub has-atom-spec : {M : Type 1} → statement M
 has-atom-spec =
     tie.close
     (tie.spec
-    Inv-loop μ-loop (λ c. search onceLaws) (λ c. search onceLaws) (λ c. search onceLaws) (λ c κs. search onceLaws)
+    Inv-loop μ-loop (λ c. search onceLaws) (λ c. search onceLaws) (λ c. search onceLaws) (λ c. search onceLaws)
     (λ c. search onceLaws) (λ c. search onceLaws) (λ c. search onceLaws) (λ c. search onceLaws) (λ c. search onceLaws))

@@ -18,5 +18,6 @@ pub keep-once-spec : {M : Type 1} → statement M
 keep-once-spec =
     tie.close
     (tie.spec
-    Inv-loop μ-loop (λ c. search onceLaws) (λ c. search onceLaws) (λ c. search onceLaws) (λ c κs. search onceLaws)
-    (λ c. search onceLaws) (λ c. search onceLaws) (λ c. search onceLaws) (λ c. search onceLaws))
+    Inv-loop μ-loop (λ c. search onceLaws) (λ c. search onceLaws) (λ c. search onceLaws) (λ c. search onceLaws)
+    (λ c. search onceLaws) (λ c. search onceLaws)
+    (λ c. (search onceLaws, search onceLaws, search onceLaws, search onceLaws, search onceLaws)) (λ c. search onceLaws))

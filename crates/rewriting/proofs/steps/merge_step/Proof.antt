@@ -6,6 +6,6 @@ pub merge-step-spec : {M : Type 1} → statement M
 merge-step-spec =
     tie.close
     (tie.spec
-    (λ c κs. search mergeLaws) (λ c. search mergeLaws) (λ c κs. search mergeLaws) (λ c. search mergeLaws) (λ c. search mergeLaws)
-    (λ c. search mergeLaws) (λ c. search mergeLaws) (λ c. search mergeLaws) (λ c κs. search mergeLaws) (λ c κs. search mergeLaws)
-    (λ c κs. search mergeLaws) (λ c. search mergeLaws) (λ c. search mergeLaws))
+    (λ c. search mergeLaws) (λ c. search mergeLaws) (λ c. search mergeLaws) (λ c. search mergeLaws) (λ c. search mergeLaws)
+    (λ c. search mergeLaws) (λ c. search mergeLaws) (λ c. search mergeLaws) (λ c. search mergeLaws) (λ c. search mergeLaws)
+    (λ c. search mergeLaws) (λ c. search mergeLaws) (λ c. search mergeLaws))

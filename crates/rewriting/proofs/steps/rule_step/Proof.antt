@@ -6,5 +6,5 @@ pub rule-step-spec : {M : Type 1} → statement M
 rule-step-spec =
     tie.close
     (tie.spec
-    (λ c κs. search ruleLaws) (λ c. search ruleLaws) (λ c. search ruleLaws) (λ c. search ruleLaws) (λ c κs. search ruleLaws)
-    (λ c κs. search ruleLaws) (λ c κs. search ruleLaws) (λ c. search ruleLaws) (λ c. search ruleLaws))
+    (λ c. search ruleLaws) (λ c. search ruleLaws) (λ c. search ruleLaws) (λ c. search ruleLaws) (λ c. search ruleLaws)
+    (λ c. search ruleLaws) (λ c. search ruleLaws) (λ c. search ruleLaws) (λ c. search ruleLaws))

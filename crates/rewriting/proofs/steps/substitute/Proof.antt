@@ -3,4 +3,4 @@ use Rattle.rewriting.proofs.steps.substitute.Statement.{statement}
 use Rattle.rewriting.proofs.steps.substitute.Tie as tie
 
 pub substitute-spec : {M : Type 1} → statement M
-substitute-spec = tie.close (tie.spec (λ c κs. search sentLaws) (λ c κs. search sentLaws) (λ c κs. search sentLaws) (λ c. search sentLaws))
+substitute-spec = tie.close (tie.spec (λ c. search sentLaws) (λ c. search sentLaws) (λ c. search sentLaws) (λ c. search sentLaws))

@@ -6,5 +6,5 @@ pub with-atom-spec : {M : Type 1} → statement M
 with-atom-spec =
     tie.close
     (tie.spec
-    (λ c κs. search onceLaws) (λ c. search onceLaws) (λ c. search onceLaws) (λ c. search onceLaws) (λ c. search onceLaws)
+    (λ c. search onceLaws) (λ c. search onceLaws) (λ c. search onceLaws) (λ c. search onceLaws) (λ c. search onceLaws)
     (λ c. search onceLaws))

@@ -6,6 +6,6 @@ pub apply-atom-spec : {M : Type 1} → statement M
 apply-atom-spec =
     tie.close
     (tie.spec
-    (λ c κs. search atomLaws) (λ c κs. search atomLaws) (λ c κs. search atomLaws) (λ c κs. search atomLaws)
-    (λ c κs. search atomLaws) (λ c κs. search atomLaws) (λ c κs. search atomLaws) (λ c κs. search atomLaws) (λ c. search atomLaws)
+    (λ c. search atomLaws) (λ c. search atomLaws) (λ c. search atomLaws) (λ c. search atomLaws)
+    (λ c. search atomLaws) (λ c. search atomLaws) (λ c. search atomLaws) (λ c. search atomLaws) (λ c. search atomLaws)
     (λ c. search atomLaws))

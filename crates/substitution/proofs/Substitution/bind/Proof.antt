@@ -3,4 +3,7 @@ use Rattle.substitution.proofs.Substitution.bind.Statement.{statement}
 use Rattle.substitution.proofs.Substitution.bind.Tie as tie
 
 pub bind-spec : {M : Type 1} → statement M
-bind-spec = tie.close (tie.spec (λ c κs. search joinLaws) (λ c κs. search joinLaws) (λ c κs. search joinLaws) (λ c. search joinLaws))
+bind-spec =
+    tie.close
+    (tie.spec
+    (λ c. search joinLaws) (λ c. search joinLaws) (λ c. search joinLaws) (λ c. search joinLaws) (λ c. search joinLaws))

@@ -1,15 +1,17 @@
 use mathlib.Core.Path.{_≡_}
 use Prim.Native.Nat.{_-_, _≤_}
+use mathlib.Core.Bool.{true}
 use lib.ListN.{length}
 use Rattle.theory.specs.Syntax.{var}
 use Rattle.substitution.specs.Substitutions.{Sound, substOf}
-use Rattle.substitution.proofs.SubstitutionLaws.{placeLaws, upTo}
+use Rattle.substitution.proofs.SubstitutionLaws.{identityLaws, upTo}
 use Rattle.substitution.proofs.Substitution.identity.Statement.{statement}
 use Rattle.substitution.proofs.Substitution.identity.Tie as tie
 
 abbrev Inv-loop : tie.InvT-loop
 Inv-loop to₀ i₀ to i =
-    (i ≤ 32) × (length to ≡ 32) × Sound (record { to = to }) × (substOf (record { to = to }) ≡ upTo i var (substOf (record { to = to₀ })))
+    (i ≤ 32) × (length to ≡ 32) × Sound (record { to = to; unified = true })
+    × (substOf (record { to = to; unified = true }) ≡ upTo i var (substOf (record { to = to₀; unified = true })))
 
 abbrev μ-loop : tie.MeasureT-loop
 μ-loop to₀ i₀ to i = 32 - i
@@ -18,5 +20,6 @@ pub identity-spec : {M : Type 1} → statement M
 identity-spec =
     tie.close
     (tie.spec
-    Inv-loop μ-loop (λ c. search placeLaws) (λ c. search placeLaws) (λ c. search placeLaws) (λ c. search placeLaws)
-    (λ c. search placeLaws) (λ c. search placeLaws) (λ c. search placeLaws))
+    Inv-loop μ-loop (λ c. search identityLaws) (λ c. search identityLaws) (λ c. search identityLaws) (λ c. search identityLaws)
+    (λ c. search identityLaws) (λ c. (search identityLaws, search identityLaws, search identityLaws, search identityLaws))
+    (λ c. search identityLaws))

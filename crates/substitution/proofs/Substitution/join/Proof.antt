@@ -6,5 +6,5 @@ pub join-spec : {M : Type 1} → statement M
 join-spec =
     tie.close
     (tie.spec
-    (λ c κs. search joinLaws) (λ c. search joinLaws) (λ c κs. search joinLaws) (λ c. search joinLaws) (λ c κs. search joinLaws)
-    (λ c. search joinLaws) (λ c κs. search joinLaws) (λ c. search joinLaws) (λ c. search joinLaws))
+    (λ c. search joinLaws) (λ c. search joinLaws) (λ c. search joinLaws) (λ c. search joinLaws) (λ c. search joinLaws)
+    (λ c. search joinLaws) (λ c. search joinLaws) (λ c. search joinLaws) (λ c. search joinLaws))

@@ -1,7 +1,7 @@
 use mathlib.Core.Path.{_≡_}
 use Prim.Native.Nat.{_-_, _≤_}
 use lib.ListN.{length}
-use Rattle.takwishan.proofs.ProgramLaws.{laws, counted}
+use Rattle.takwishan.proofs.ProgramLaws.{laws}
 use Rattle.takwishan.proofs.files.read_on.Statement.{statement}
 use Rattle.takwishan.proofs.files.read_on.Tie as tie
 
@@ -13,4 +13,7 @@ abbrev μ-loop : tie.MeasureT-loop
 μ-loop fd sheet₀ done₀ sheet done = length sheet₀ - done
 
 pub read-on-spec : {M : Type 1} → statement M
-read-on-spec = tie.close (tie.spec Inv-loop μ-loop (λ c. search laws) (λ c. search laws) (λ c. search laws) (λ c. search laws) (λ c κs. search laws) (λ c. search laws) (λ c. search laws) (λ c κs. search laws) (λ c. search laws) (λ c. counted _ _ (search laws)) (λ c. search laws) (λ c. search laws) (λ c. search laws) (λ c. search laws) (λ c. search laws))
+read-on-spec =
+    tie.close
+    (tie.spec Inv-loop μ-loop (λ c. search laws) (λ c κs. search laws) (λ c. search laws) (λ c. search laws) (λ c. search laws)
+    (λ c. search laws) (λ c. search laws) (λ c. search laws) (λ c. search laws))

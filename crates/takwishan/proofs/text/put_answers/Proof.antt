@@ -4,4 +4,7 @@ use Rattle.takwishan.proofs.text.put_answers.Statement.{statement}
 use Rattle.takwishan.proofs.text.put_answers.Tie as tie
 
 pub put-answers-spec : {M : Type 1} → statement M
-put-answers-spec = tie.close (tie.spec (λ c κs. search laws) (λ c κs. search laws) (λ c κs. (search laws, search laws)) (λ c. search laws) (λ c. search laws) (λ c. (search laws, search laws)))
+put-answers-spec =
+    tie.close
+    (tie.spec (λ c κs. search laws) (λ c κs. search laws) (λ c κs. (search laws, search laws)) (λ c. search laws) (λ c. search laws)
+    (λ c. (search laws, search laws)))

@@ -3,4 +3,4 @@ use Rattle.variables.proofs.fresh.fresh.Statement.{statement}
 use Rattle.variables.proofs.fresh.fresh.Tie as tie
 
 pub fresh-spec : {M : Type 1} → statement M
-fresh-spec = tie.close (tie.spec (λ c κs. search laws) (λ c κs. search laws) (λ c. search laws) (λ c. search laws))
+fresh-spec = tie.close (tie.spec (λ c. search laws) (λ c. search laws) (λ c. search laws) (λ c. search laws))

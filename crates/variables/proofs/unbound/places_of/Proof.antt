@@ -3,4 +3,8 @@ use Rattle.variables.proofs.unbound.places_of.Statement.{statement}
 use Rattle.variables.proofs.unbound.places_of.Tie as tie
 
 pub places-of-spec : {M : Type 1} → statement M
-places-of-spec = tie.close (tie.spec (λ c κs. search laws) (λ c κs. search laws) (λ c κs. search laws) (λ c κs. search laws) (λ c κs. search laws) (λ c κs. search laws) (λ c κs. search laws) (λ c. search laws) (λ c. search laws) (λ c. search laws))
+places-of-spec =
+    tie.close
+    (tie.spec
+    (λ c. search laws) (λ c. search laws) (λ c. search laws) (λ c. search laws) (λ c. search laws) (λ c. search laws) (λ c. search laws)
+    (λ c. search laws) (λ c. search laws) (λ c. search laws))

@@ -3,4 +3,4 @@ use Rattle.variables.proofs.unbound.unbound.Statement.{statement}
 use Rattle.variables.proofs.unbound.unbound.Tie as tie
 
 pub unbound-spec : {M : Type 1} → statement M
-unbound-spec = tie.close (tie.spec (λ c κs. search laws) (λ c κs. search laws) (λ c. search laws) (λ c. search laws) (λ c. search laws))
+unbound-spec = tie.close (tie.spec (λ c κs. search laws) (λ c. search laws) (λ c. search laws) (λ c. search laws) (λ c. search laws) (λ c. search laws))

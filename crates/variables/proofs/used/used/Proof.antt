@@ -3,4 +3,4 @@ use Rattle.variables.proofs.used.used.Statement.{statement}
 use Rattle.variables.proofs.used.used.Tie as tie
 
 pub used-spec : {M : Type 1} → statement M
-used-spec = tie.close (tie.spec (λ c κs. search laws) (λ c κs. search laws) (λ c. search laws))
+used-spec = tie.close (tie.spec (λ c. search laws) (λ c. search laws) (λ c. search laws))

@@ -3,4 +3,7 @@ use Rattle.variables.proofs.used.with_atom.Statement.{statement}
 use Rattle.variables.proofs.used.with_atom.Tie as tie
 
 pub with-atom-spec : {M : Type 1} → statement M
-with-atom-spec = tie.close (tie.spec (λ c κs. search laws) (λ c κs. search laws) (λ c κs. search laws) (λ c κs. search laws) (λ c κs. search laws) (λ c. search laws) (λ c. search laws))
+with-atom-spec =
+    tie.close
+    (tie.spec
+    (λ c. search laws) (λ c. search laws) (λ c. search laws) (λ c. search laws) (λ c. search laws) (λ c. search laws) (λ c. search laws))

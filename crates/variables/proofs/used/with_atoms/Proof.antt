@@ -11,4 +11,8 @@ abbrev μ-loop : tie.MeasureT-loop
 μ-loop set atoms n all₀ k₀ all k = n - k
 
 pub with-atoms-spec : {M : Type 1} → statement M
-with-atoms-spec = tie.close (tie.spec Inv-loop μ-loop (λ c. search laws) (λ c. search laws) (λ c. search laws) (λ c κs. search laws) (λ c. search laws) (λ c. search laws) (λ c. search laws) (λ c. search laws))
+with-atoms-spec =
+    tie.close
+    (tie.spec
+    Inv-loop μ-loop (λ c. search laws) (λ c. search laws) (λ c. search laws) (λ c. search laws) (λ c. search laws) (λ c. search laws)
+    (λ c. search laws) (λ c. search laws))

@@ -3,4 +3,4 @@ use Rattle.variables.proofs.used.with_term.Statement.{statement}
 use Rattle.variables.proofs.used.with_term.Tie as tie
 
 pub with-term-spec : {M : Type 1} → statement M
-with-term-spec = tie.close (tie.spec (λ c. search laws) (λ c κs. search laws) (λ c. search laws) (λ c. search laws))
+with-term-spec = tie.close (tie.spec (λ c. search laws) (λ c. search laws) (λ c. search laws) (λ c. search laws))

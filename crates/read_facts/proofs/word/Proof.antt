@@ -1,0 +1,9 @@
+use borrow.Author.Needs.{needs}
+use Rattle.read_facts.proofs.word.Statement.{statement}
+use Rattle.read_facts.proofs.word.Tie as tie
+
+pub word-spec : {M : Type 1} → statement M
+word-spec =
+    tie.close
+    (tie.spec (λ c. search needs) (λ c. search needs) (λ c. search needs) (λ c. search needs) (λ c. search needs) (λ c. search needs)
+    (λ c. search needs))

@@ -1,0 +1,28 @@
+-- What reading a fact sheet gives, and a fact's word by its fields.
+use mathlib.Core.Path.{_≡_}
+use Prim.Native.Nat.{ℕ}
+use mathlib.Core.List.{List}
+use Rattle.theory.specs.Refusals.{firstRefusal}
+use Rattle.words.specs.FactWords.{FactWords}
+use Rattle.words.specs.Limits.{sheetWidth, wordWidth, mostFacts}
+use Rattle.words.specs.Records.{factKind, factZeros, factName, factFirst, factSecond}
+use Rattle.words.specs.Words.{factsIn}
+use Rattle.sheets.specs.Reading.{factsAsRead}
+use Rattle.sheets.specs.Refusals.{numberOf, factRefusals}
+use Rattle.records.specs.Reading.{ReadInto}
+
+pub record FactsRead (partners s table : List ℕ) (number count : ℕ) : Type 0 where
+  -- the number is that of the first of 12 and 13 that applies; where none does, the table's first `count` words are the sheet's facts as
+  -- read, and the count is their number
+  pub sheet : ReadInto
+      (numberOf (firstRefusal (factRefusals sheetWidth s))) (factsAsRead partners sheetWidth s) (factsIn table) mostFacts number count
+  -- they are so bit for bit
+  pub words : FactWords table count
+
+-- the word with these fields, and zero bits where a fact has them
+pub record HasFields (kind name first second f : ℕ) : Type 0 where
+  pub kind-is : factKind wordWidth f ≡ kind
+  pub zeros : factZeros wordWidth f ≡ 0
+  pub name-is : factName wordWidth f ≡ name
+  pub first-is : factFirst wordWidth f ≡ first
+  pub second-is : factSecond wordWidth f ≡ second
