@@ -1,26 +1,42 @@
-# make run: the program on the sample register. make test: the whole gate. make trials: the library against the second implementation.
-# make bench: how fast sheets are read, checked and answered.
 SHELL := /bin/bash
 .SHELLFLAGS := -euo pipefail -c
-.PHONY: run test trials bench
+.DEFAULT_GOAL := help
+.PHONY: help run lib test quick trials bench
+
+help:
+	@echo 'make run     the program on the sample register (sample/)'
+	@echo 'make lib     target/lib: libtakwishan.a, takwishan.h, takwishan.pc, for C and Rust'
+	@echo 'make test    the gate: every proof from nothing, every must-fail edit, every test; half an hour on two cores'
+	@echo 'make quick   what changed since the last landing (origin/main, or BASE=..) and the crates above it'
+	@echo 'make trials  the library against a second implementation (SEED=5 CASES=200000)'
+	@echo 'make bench   how fast sheets are read, checked and answered (docs/BENCHMARKS.md)'
+	@echo
+	@echo 'All but help prove first what is not proved yet: about 4 minutes on two cores, the first time.'
 
 # the program reads its files from the folder that it is run in
 run:
-	@rt check takwishan >/dev/null
+	@tools/prove takwishan
 	@cd sample && ../target/bin/takwishan
+
+lib:
+	@tools/lib
 
 test:
 	@tools/gate
+
+quick:
+	@tools/quick
 
 # a seed, and how many cases
 SEED ?= 20070713
 CASES ?= 24000
 trials:
-	@rt staticlib answering >/dev/null
+	@tools/lib
 	@cargo run --release --quiet --offline --manifest-path tests/trials/Cargo.toml -- $(SEED) $(CASES)
 
 bench:
-	@rt staticlib bench_lib >/dev/null
-	@rt staticlib answering >/dev/null
+	@tools/lib
+	@tools/prove bench_lib
+	@rt staticlib bench_lib > target/log/bench 2>&1 || { cat target/log/bench; exit 1; }
 	@cargo run --release --quiet --offline --manifest-path bench/Cargo.toml
 	@cargo run --release --quiet --offline --manifest-path bench/drawing/Cargo.toml

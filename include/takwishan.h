@@ -1,6 +1,6 @@
 /*
  * Takwishan for C: a union of conjunctive queries checked against rules and question, answers drawn with it from facts, and a member of a
- * union shown. Link with target/staticlib/libanswering.a, which `rt staticlib answering` writes (x86-64 Linux).
+ * union shown. Link with target/lib/libtakwishan.a, which `make lib` writes (x86-64 Linux).
  *
  * A sheet is a pointer and a length in bytes. The pointer must not be null and must be good for reading so many bytes, also where the
  * length is 0; nothing may write them during the call. The list must be good for writing and must not overlap a sheet. Every sheet of
@@ -16,6 +16,9 @@
 #ifdef __cplusplus
 extern "C" {
 #endif
+
+/* The version of header and library; CHANGELOG.md says what changed. */
+#define TAKWISHAN_VERSION "0.5.0"
 
 /* The longest sheets, in bytes; a longer one is refused. */
 enum {
@@ -97,8 +100,8 @@ struct takwishan_answers takwishan_answer(const uint8_t *rules, size_t rules_len
                                           const uint8_t *union_sheet, size_t union_length, const uint8_t *facts, size_t facts_length,
                                           uint8_t *list, size_t list_length);
 
-/* The part of a union sheet that holds the question of a member, counted from 0. Its length is 0, and its start too, if the sheet meets 6 on its
- * own (term counts being compared with member 0's) or has no such member. */
+/* The part of a union sheet that holds the question of a member, counted from 0. Its length is 0, and its start too, if the sheet meets 6
+ * on its own (term counts being compared with member 0's) or has no such member. */
 struct takwishan_part takwishan_member(const uint8_t *union_sheet, size_t union_length, size_t member);
 
 #ifdef __cplusplus

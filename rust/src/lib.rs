@@ -1,7 +1,7 @@
 //! Takwishan for Rust: a union of conjunctive queries checked against rules and question, answers drawn with it from facts, and a member of
 //! a union shown.
 //!
-//! The work is done by a proved library (`rt staticlib answering`); this crate only hands slices over. Every sheet of every length and
+//! The work is done by a proved library (`make lib`); this crate only hands slices over. Every sheet of every length and
 //! content is answered: nothing panics, allocates or blocks. A call needs less than half a megabyte of stack.
 //!
 //! Card K1 of document 01: each concept 1 is driven by something; who is driven?
@@ -33,6 +33,9 @@ mod refusal;
 pub use linked::Answers;
 pub use refusal::Refusal;
 
+/// The version of wrapper, header and library; CHANGELOG.md says what changed.
+pub const VERSION: &str = env!("CARGO_PKG_VERSION");
+
 /// Checks a union against rules and question: the first refusal of 1 to 11 that applies, or `Ok` where the union is accepted.
 pub fn check(rules: &[u8], question: &[u8], union: &[u8]) -> Result<(), Refusal> {
     given(linked::check(rules, question, union))
@@ -54,8 +57,8 @@ pub fn outcome(rules: &[u8], question: &[u8], union: &[u8], facts: &[u8], list: 
     linked::answer(rules, question, union, facts, list)
 }
 
-/// The part of a union sheet that holds the question of member `m`, counted from 0. It is empty if the sheet meets 6 on its own (term counts
-/// being compared with member 0's) or has no such member.
+/// The part of a union sheet that holds the question of member `m`, counted from 0. It is empty if the sheet meets 6 on its own (term
+/// counts being compared with member 0's) or has no such member.
 pub fn member(union: &[u8], m: usize) -> &[u8] {
     let part = linked::member(union, m);
     &union[part.start..part.start + part.length]

@@ -58,7 +58,8 @@ pub fn check(rules: &[u8], question: &[u8], union: &[u8]) -> u32 {
 }
 
 pub fn answer(rules: &[u8], question: &[u8], union: &[u8], facts: &[u8], list: &mut [u8]) -> Answers {
-    // Safety: each pointer is that of a slice of the length beside it. The function writes only the list, which is borrowed for itself alone.
+    // Safety: each pointer is that of a slice of the length beside it. The function writes only the list, which is borrowed for itself
+    // alone.
     unsafe {
         takwishan_answer(
             rules.as_ptr(),

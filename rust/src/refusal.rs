@@ -4,8 +4,8 @@ use std::fmt;
 /// The list in one place: a case, its number and 01's sentence.
 macro_rules! refusals {
     ($($case:ident = $number:literal: $sentence:literal,)*) => {
-        /// Why a call was refused. The first entry whose condition holds decides, for the earlier ones not holding. Checking a union uses 1 to
-        /// 11, drawing answers all.
+        /// Why a call was refused. The first entry whose condition holds decides, for the earlier ones not holding. Checking a union uses
+        /// 1 to 11, drawing answers all.
         #[derive(Clone, Copy, Debug, PartialEq, Eq, PartialOrd, Ord, Hash)]
         pub enum Refusal {
             $(#[doc = concat!(stringify!($number), ": ", $sentence)] $case = $number,)*
@@ -31,7 +31,8 @@ refusals! {
     QuestionMalformed = 3: "The question has a count out of range, a set bit that must be zero, a variable above 31, or a wrong length.",
     AnswerVariableNowhere = 4: "An answer variable stands in no atom of the question.",
     AtomTwice = 5: "The question, as read, has one atom twice.",
-    UnionMalformed = 6: "The union's count is out of range, its bytes end early or run on, a member would meet 3, 4 or 5, or a member's answer-term count differs from the question's.",
+    UnionMalformed = 6: "The union's count is out of range, its bytes end early or run on, a member would meet 3, 4 or 5, \
+        or a member's answer-term count differs from the question's.",
     FirstMemberNotQuestion = 7: "Member 0 has a nonzero step, or answer terms or atoms that differ from the question's in their order.",
     StepDoesNotApply = 8: "A later member's step has kind 0 or 3, a parent not earlier, an index that doesn't exist, or doesn't apply.",
     StepGivesAnother = 9: "A step's result isn't alike to its member.",

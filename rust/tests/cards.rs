@@ -1,143 +1,81 @@
-//! Cards of document 01 through the wrapper.
-use takwishan::{answer, check, member, Refusal};
+//! The cards of tests/vectors, K1 to K12 among them, through the wrapper.
+use takwishan::{answer, check, member, outcome, Refusal};
+use vectors::{case, Case};
 
-#[rustfmt::skip]
-const K1_RULES: &[u8] = &[
-    0x10, 0x00, 0x60, 0x00, // each concept 1 is driven by something
-];
-#[rustfmt::skip]
-const K1_QUESTION: &[u8] = &[
-    0x11, 0x00, 0x00, 0x00, 0x80, 0x00, 0x00, 0x02, 0x00, 0x00, // x: drives(y,x)
-];
-#[rustfmt::skip]
-const K1_UNION: &[u8] = &[
-    0x00, 0x02, // 2 members
-    0x00, 0x00, 0x00, 0x00, 0x11, 0x00, 0x00, 0x00, 0x80, 0x00, 0x00, 0x02, 0x00, 0x00, // the question
-    0x40, 0x00, 0x00, 0x00, 0x11, 0x00, 0x00, 0x00, 0x00, 0x04, 0x00, 0x00, 0x00, 0x00, // rule 0 on atom 0: concept 1 of x
-];
-#[rustfmt::skip]
-const K1_FACTS: &[u8] = &[
-    0x00, 0x01, 0x00, 0x07, 0x00, 0x00, // concept 1: 7
-    0x80, 0x01, 0x00, 0x09, 0x00, 0x03, // driven by: 9, 3
-];
+/// What `check` and `answer` give for a refusal's number, or for 0.
+fn given<T>(number: u32, accepted: T) -> Result<T, Refusal> {
+    match number {
+        0 => Ok(accepted),
+        n => Err(Refusal::from_number(n).expect("a number of 01's list")),
+    }
+}
 
-#[rustfmt::skip]
-const K5_RULES: &[u8] = &[
-    0x10, 0x00, 0x50, 0x10, // A has a P
-    0x18, 0x04, 0x00, 0x01, // whoever is P-reached is A
-];
-#[rustfmt::skip]
-const K5_QUESTION: &[u8] = &[
-    0x02, 0x80, 0x40, 0x00, 0x00, 0x00, 0x01, 0x80, 0x40, 0x00, 0x02, 0x00, 0x02, // P(x,y), P(y,z)
-];
-#[rustfmt::skip]
-const K5_UNION: &[u8] = &[
-    0x00, 0x06, // 6 members
-    0x00, 0x00, 0x00, 0x00, 0x02, 0x80, 0x40, 0x00, 0x00, 0x00, 0x01, 0x80, 0x40, 0x00, 0x02, 0x00, 0x02, // itself
-    0x40, 0x01, 0x00, 0x00, 0x02, 0x80, 0x40, 0x00, 0x00, 0x00, 0x01, 0x00, 0x04, 0x00, 0x02, 0x00, 0x00, // P(x,y), A(y)
-    0x80, 0x00, 0x00, 0x01, 0x01, 0x80, 0x40, 0x00, 0x00, 0x00, 0x00, // P(x,x)
-    0x40, 0x11, 0x00, 0x01, 0x02, 0x80, 0x40, 0x00, 0x00, 0x00, 0x01, 0x80, 0x40, 0x00, 0x06, 0x00, 0x01, // P(x,y), P(w,y)
-    0x80, 0x30, 0x00, 0x01, 0x01, 0x80, 0x40, 0x00, 0x00, 0x00, 0x01, // P(x,y)
-    0x40, 0x40, 0x00, 0x00, 0x01, 0x00, 0x04, 0x00, 0x00, 0x00, 0x00, // A(x)
-];
-const A_5: &[u8] = &[0x00, 0x01, 0x00, 0x05, 0x00, 0x00];
-
-#[rustfmt::skip]
-const K6_RULES: &[u8] = &[
-    0x10, 0x00, 0x50, 0x10, // A has a P
-];
-#[rustfmt::skip]
-const K6_QUESTION: &[u8] = &[
-    0x21, 0x00, 0x00, 0x00, 0x00, 0x00, 0x01, 0x80, 0x40, 0x00, 0x00, 0x00, 0x01, // x, y: P(x,y)
-];
-#[rustfmt::skip]
-const K6_UNION: &[u8] = &[
-    0x00, 0x01, // one member
-    0x00, 0x00, 0x00, 0x00, 0x21, 0x00, 0x00, 0x00, 0x00, 0x00, 0x01, 0x80, 0x40, 0x00, 0x00, 0x00, 0x01, // itself
-];
-
-#[rustfmt::skip]
-const K7_QUESTION: &[u8] = &[
-    0x02, 0x80, 0x04, 0x00, 0x00, 0x00, 0x01, 0x80, 0x00, 0x00, 0x02, 0x00, 0x00, // driven by(x,y), drives(y,x)
-];
-
-#[test]
-fn k1_finds_what_the_rule_promises() {
-    assert_eq!(check(K1_RULES, K1_QUESTION, K1_UNION), Ok(()));
-    let mut list = [0xff; 9];
-    assert_eq!(answer(K1_RULES, K1_QUESTION, K1_UNION, K1_FACTS, &mut list), Ok(2));
-    assert_eq!(list, [0, 7, 0, 9, 0, 0, 0, 0, 0]);
+/// Draws into a list that was full of other bytes.
+fn drawn(case: &Case, facts: &[u8], length: usize) -> (Result<usize, Refusal>, Vec<u8>) {
+    let mut list = vec![0xff; length];
+    let count = answer(&case.rules, &case.question, &case.union, facts, &mut list);
+    (count, list)
 }
 
 #[test]
-fn k2_needs_four_bytes() {
-    let mut list = [0xff; 4];
-    assert_eq!(
-        answer(K1_RULES, K1_QUESTION, K1_UNION, K1_FACTS, &mut list[..3]),
-        Err(Refusal::ListTooShort)
-    );
-    assert_eq!(list, [0, 0, 0, 0xff]);
-    assert_eq!(answer(K1_RULES, K1_QUESTION, K1_UNION, K1_FACTS, &mut list), Ok(2));
-    assert_eq!(list, [0, 7, 0, 9]);
+fn every_card() {
+    for case in vectors::all() {
+        let (number, count, list) = case.outcome();
+        let name = &case.name;
+        let checked = check(&case.rules, &case.question, &case.union);
+        assert_eq!(checked, given(case.checked(), ()), "check {name}");
+        let expected = given(number, count as usize);
+        assert_eq!(drawn(&case, &case.facts, case.list), (expected, list), "answer {name}");
+        let mut again = vec![0; case.list];
+        let plain = outcome(&case.rules, &case.question, &case.union, &case.facts, &mut again);
+        assert_eq!((plain.number, plain.count), (number, count), "outcome {name}");
+    }
 }
 
 #[test]
-fn k5_has_the_empty_tuple() {
-    assert_eq!(check(K5_RULES, K5_QUESTION, K5_UNION), Ok(()));
-    let mut list = [0xff; 4];
-    assert_eq!(answer(K5_RULES, K5_QUESTION, K5_UNION, A_5, &mut list), Ok(1));
-    assert_eq!(list, [0; 4]);
-    assert_eq!(answer(K5_RULES, K5_QUESTION, K5_UNION, A_5, &mut []), Ok(1));
-    assert_eq!(answer(K5_RULES, K5_QUESTION, K5_UNION, &[], &mut []), Ok(0));
+fn nothing_is_written_beside_the_list() {
+    let k1 = case("K1");
+    let mut lent = [0xff; 4];
+    let short = answer(&k1.rules, &k1.question, &k1.union, &k1.facts, &mut lent[..3]);
+    assert_eq!(short, Err(Refusal::ListTooShort));
+    assert_eq!(lent, [0, 0, 0, 0xff]);
 }
 
 #[test]
-fn k6_lists_pairs_of_objects_only() {
-    let mut list = [0xff; 4];
-    assert_eq!(answer(K6_RULES, K6_QUESTION, K6_UNION, A_5, &mut list), Ok(0));
-    assert_eq!(list, [0; 4]);
-    let p_fact = [0x80, 0x10, 0x00, 0x05, 0xff, 0xff];
-    assert_eq!(answer(K6_RULES, K6_QUESTION, K6_UNION, &p_fact, &mut list), Ok(1));
-    assert_eq!(list, [0, 5, 0xff, 0xff]);
-}
-
-#[test]
-fn k7_is_one_atom_twice() {
-    let union = [&[0, 1, 0, 0, 0, 0], K7_QUESTION].concat();
-    assert_eq!(check(&[], K7_QUESTION, &union), Err(Refusal::AtomTwice));
-    let mut list = [0xff; 2];
-    assert_eq!(
-        answer(&[], K7_QUESTION, &union, &[], &mut list),
-        Err(Refusal::AtomTwice)
-    );
-    assert_eq!(list, [0; 2]);
+fn the_empty_tuple_needs_no_list() {
+    let k5 = case("K5");
+    assert_eq!(drawn(&k5, &k5.facts, 0), (Ok(1), vec![]));
+    assert_eq!(drawn(&k5, &[], 0), (Ok(0), vec![]));
 }
 
 #[test]
 fn members_are_parts_of_the_sheet() {
-    assert_eq!(member(K1_UNION, 0), K1_QUESTION);
-    assert_eq!(member(K1_UNION, 0).as_ptr(), K1_UNION[6..].as_ptr());
-    assert_eq!(member(K1_UNION, 1), &K1_UNION[20..]);
-    assert_eq!(member(K1_UNION, 2), &[]);
-    assert_eq!(member(K1_UNION, usize::MAX), &[]);
-    assert_eq!(member(&K1_UNION[..29], 0), &[]);
+    let k1 = case("K1");
+    let union = &k1.union[..];
+    assert_eq!(member(union, 0), k1.question);
+    assert_eq!(member(union, 0).as_ptr(), union[6..].as_ptr());
+    assert_eq!(member(union, 1), &union[20..]);
+    assert_eq!(member(union, 2), &[]);
+    assert_eq!(member(union, usize::MAX), &[]);
+    assert_eq!(member(&union[..29], 0), &[]);
     assert_eq!(member(&[], 0), &[]);
 }
 
 #[test]
 fn empty_sheets_are_answered() {
     assert_eq!(check(&[], &[], &[]), Err(Refusal::QuestionMalformed));
-    assert_eq!(check(&[], K1_QUESTION, &[]), Err(Refusal::UnionMalformed));
+    assert_eq!(check(&[], &case("K1").question, &[]), Err(Refusal::UnionMalformed));
 }
 
 /// The largest sheets, in a thread with half a megabyte of stack.
 #[test]
 fn little_stack_is_enough() {
-    let run = || {
-        let rules = K1_RULES.repeat(512);
-        let facts = K1_FACTS[6..].repeat(10_000);
+    let k1 = case("K1");
+    let run = move || {
+        let rules = k1.rules.repeat(512);
+        let facts = k1.facts[6..].repeat(10_000);
         let mut list = [0xff; 2];
-        let drawn = answer(&rules, K1_QUESTION, K1_UNION, &facts, &mut list);
+        let drawn = answer(&rules, &k1.question, &k1.union, &facts, &mut list);
         (drawn, list)
     };
     let thread = std::thread::Builder::new()
@@ -145,4 +83,25 @@ fn little_stack_is_enough() {
         .spawn(run)
         .expect("a thread");
     assert_eq!(thread.join().expect("no overflow"), (Ok(1), [0, 9]));
+}
+
+/// The example in the crate's documentation has K1's bytes.
+#[test]
+fn the_documented_example_is_k1() {
+    let text = include_str!("../src/lib.rs");
+    let written = |name: &str| {
+        let start = text
+            .find(&format!("let {name} = ["))
+            .expect("the example names the sheet");
+        let array = text[start..].split("];").next().expect("the sheet's end");
+        array
+            .lines()
+            .flat_map(|line| line.trim_start_matches("//!").split("//").next())
+            .flat_map(|line| line.split("0x").skip(1))
+            .map(|digits| u8::from_str_radix(&digits[..2], 16).expect("two digits"))
+            .collect::<Vec<u8>>()
+    };
+    let k1 = case("K1");
+    let sheets = ["rules", "question", "union", "facts"].map(written);
+    assert_eq!(sheets, [k1.rules, k1.question, k1.union, k1.facts]);
 }

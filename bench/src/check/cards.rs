@@ -23,11 +23,6 @@ fn both(name: &str, rules: &[u8], question: &[u8], union: &[u8], expected: u32) 
     println!("card {name}: {number}");
 }
 
-fn hex(text: &str) -> Vec<u8> {
-    let byte = |word: &str| u8::from_str_radix(word, 16).expect("two digits");
-    text.split_whitespace().map(byte).collect()
-}
-
 /// A card whose union is made by the steps: the number of its members, then the check of the whole, then of it without its last member.
 fn vector(name: &str, rules: &[Rule], answers: &[Term], atoms: &[Atom], members: usize) {
     let sheet = made(rules, Query::new(answers, atoms), Numbering::Kept, 512);
@@ -50,29 +45,15 @@ fn vector(name: &str, rules: &[Rule], answers: &[Term], atoms: &[Atom], members:
     }
 }
 
-fn k1() {
-    let rules = hex("10 00 60 00");
-    let question = hex("11 00 00 00 80 00 00 02 00 00");
-    let mut union = hex("00 02 00 00 00 00");
-    union.extend(&question);
-    let second = union.len();
-    union.extend(hex("40 00 00 00 11 00 00 00 00 04 00 00 00 00"));
-    both("K1", &rules, &question, &union, 0);
-    let mut k10 = union.clone();
-    k10[second + 3] = 1;
-    both("K10", &rules, &question, &k10, 8);
-    let mut k11 = union.clone();
-    k11[second + 9] = 8;
-    both("K11", &rules, &question, &k11, 9);
-    let mut k8 = union[..second].to_vec();
-    k8[1] = 1;
-    both("K8", &[], &question, &k8, 0);
-    both("K9, 513 rules", &rules.repeat(513), &question, &union, 1);
-    both("K9, 512 rules", &rules.repeat(512), &question, &union, 0);
-    both("no question", &rules, &[], &union, 3);
-    both("no union", &rules, &question, &[], 6);
-    let k7 = hex("02 80 04 00 00 00 01 80 00 00 02 00 00");
-    both("K7", &rules, &k7, &union, 5);
+/// The cards of tests/vectors, and K1 with a sheet missing.
+fn cards() {
+    for case in vectors::all() {
+        let number = case.checked();
+        both(&case.name, &case.rules, &case.question, &case.union, number);
+    }
+    let k1 = vectors::case("K1");
+    both("no question", &k1.rules, &[], &k1.union, 3);
+    both("no union", &k1.rules, &k1.question, &[], 6);
 }
 
 /// A union written by hand, with the steps beside its members.
@@ -120,7 +101,7 @@ fn k3_to_k6() {
     written("K6", &has, &[(0, Query::new(&[0, 1], &[p(0, 1)]))], 0);
 }
 
-fn vectors() {
+fn made_unions() {
     let p = |x, y| Atom::role(P, x, y);
     let s = |x, y| Atom::role(S, x, y);
     let r = |x, y| Atom::role(R, x, y);
@@ -174,7 +155,7 @@ fn vectors() {
 }
 
 pub fn run() {
-    k1();
+    cards();
     k3_to_k6();
-    vectors();
+    made_unions();
 }

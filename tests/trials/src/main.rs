@@ -53,9 +53,9 @@ fn run(seed: u64, cases: u64) -> bool {
     let mut tally = Tally::default();
     let mut chance = Chance::new(seed);
     for card in cards::cards() {
-        tally.compare_check(card.name, &card.sheets);
-        tally.compare_answer(card.name, &card.sheets, &card.expected, &mut chance);
-        tally.compare_members(card.name, &card.sheets, &mut chance);
+        tally.compare_check(&card.name, &card.sheets);
+        tally.compare_answer(&card.name, &card.sheets, &card.expected, &mut chance);
+        tally.compare_members(&card.name, &card.sheets, &mut chance);
     }
     println!("seed {seed}, {cases} cases");
     for case in 0..cases {
