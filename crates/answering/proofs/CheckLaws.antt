@@ -25,14 +25,15 @@ use Rattle.sheets.specs.Laws.QuestionRefusals.{not3-iff, variables-in-range}
 use Rattle.sheets.specs.Laws.OneList.{first-positive}
 use Rattle.read_rules.specs.RuleWords.{RulesRead}
 use Rattle.read_question.specs.QuestionWords.{QuestionRead}
-use Rattle.drawing.specs.Stages.{unionNumber}
+use Rattle.answer_stages.specs.Stages.{unionNumber}
 use Rattle.answering.specs.Laws.Checking.{rules-stop, question-stops, question-passes}
 use Rattle.answering.specs.Checking.{sheetsOf, checkNumber, Checked}
 use Rattle.answering.specs.Laws.CheckPromises.{zero-means}
 
 -- ---- rules and question, as they were read
 
-pub rules-within : (p s table : List ℕ) (number count : ℕ) → RulesRead p s table number count → length table ≡ mostRules → count ≤ length table
+pub rules-within : (p s table : List ℕ) (number count : ℕ) → RulesRead p s table number count → length table ≡ mostRules
+    → count ≤ length table
 rules-within p s table number count read h = let l : count ≤ mostRules = read .few in omega arith
 
 -- where no test passes, the first does not
@@ -74,7 +75,8 @@ module _ (rules question union : List ℕ) (p table : List ℕ) (first count : �
         → r ≡ checkNumber rules question union
     unfolding questionAsRead
     all-checked zero′ r g =
-        let a : rulesIn table count ≡ rulesAsRead partners01 sheetWidth rules = read .read zero ∙ ap (λ t. rulesAsRead t sheetWidth rules) table01 in
+        let a : rulesIn table count ≡ rulesAsRead partners01 sheetWidth rules = read .read zero
+        ∙ ap (λ t. rulesAsRead t sheetWidth rules) table01 in
         let b : queryOf q ≡ questionAsRead partners01 sheetWidth question
         = asked .query zero′ .query-is ∙ ap (λ t. questionAsRead t sheetWidth question) table01 in
         let d : q .terms ≡ termCount question 0 = asked .query zero′ .terms-are in

@@ -24,14 +24,15 @@ use Rattle.sheets.specs.Laws.QuestionRefusals.{question-arity}
 use Rattle.sheets.specs.Laws.OneList.{number-zero, drawing-first}
 use Rattle.read_rules.specs.RuleWords.{RulesRead}
 use Rattle.read_question.specs.QuestionWords.{QuestionRead}
-use Rattle.drawing.specs.declared.Answers.{Answers}
+use Rattle.answer_stages.specs.declared.Answers.{Answers}
+use Rattle.answer_stages.specs.Stages.{otherwise, factsNumber, roomNumber, Gives, GivesFromUnion}
+use Rattle.answer_stages.proofs.DrawLaws.{refused-first, gives-along}
 use Rattle.answering.specs.Checking.{checkNumber}
 use Rattle.answering.specs.Drawing.{theAnswers, termsOf, bytesNeeded, outcome, Drawn}
-use Rattle.answering.specs.Laws.DrawPromises.{number-is, zero-means, fourteen-means, refused-means, count-means, list-means, both-readers, ascending, rest-zero}
-use Rattle.drawing.specs.Stages.{otherwise, factsNumber, roomNumber, Gives, GivesFromUnion}
+use Rattle.answering.specs.Laws.DrawPromises.{number-is, zero-means, fourteen-means, refused-means, count-means, list-means}
+use Rattle.answering.specs.Laws.DrawPromises.{both-readers, ascending, rest-zero}
 use Rattle.answering.specs.Laws.Drawing.{four, checked-same}
 use Rattle.answering.proofs.CheckLaws.{rules-refused, question-refused, all-checked}
-use Rattle.drawing.proofs.DrawLaws.{refused-first, gives-along}
 
 -- ---- numbers, one after the other
 
@@ -66,7 +67,9 @@ module _ (rules question union facts : List ℕ) (room : ℕ) where
 
   -- the number of the call, stage by stage
   abbrev staged : ℕ
-  staged = otherwise (checkNumber rules question union) (otherwise (factsNumber facts) (roomNumber room (termsOf question) (theAnswers union facts)))
+  staged =
+      otherwise (checkNumber rules question union)
+      (otherwise (factsNumber facts) (roomNumber room (termsOf question) (theAnswers union facts)))
 
   staged-is : outcome rules question union facts room .number ≡ staged
   unfolding factRefusals all
@@ -74,7 +77,8 @@ module _ (rules question union facts : List ℕ) (room : ℕ) where
       let sheets : Sheets = four rules question union facts in
       let F : Option ℕ = firstRefusal (factRefusals sheetWidth facts) in
       number-is rules question union facts room
-      ∙ number-else (refusalOf partners01 sheetWidth drawing sheets) (guard (ltb room needed) 14) (number-zero partners01 sheetWidth sheets drawing)
+      ∙ number-else (refusalOf partners01 sheetWidth drawing sheets) (guard (ltb room needed) 14)
+      (number-zero partners01 sheetWidth sheets drawing)
       ∙ ap₂ otherwise
       (ap numberOf (drawing-first partners01 sheetWidth sheets)
       ∙ number-else (refusalOf partners01 sheetWidth checking sheets) F (number-zero partners01 sheetWidth sheets checking)
@@ -98,11 +102,15 @@ module _ (rules question union facts : List ℕ) (room : ℕ) where
     same-both : (r .count ≡ outcome rules question union facts room .count) × (list ≡ outcome rules question union facts room .list)
     same-both = go (eqb (r .number) 0) refl
       where
-        go : (t : Bool) → t ≡ eqb (r .number) 0 → (r .count ≡ outcome rules question union facts room .count) × (list ≡ outcome rules question union facts room .list)
+        go : (t : Bool) → t ≡ eqb (r .number) 0 → (r .count ≡ outcome rules question union facts room .count)
+            × (list ≡ outcome rules question union facts room .list)
         go true e =
             let z : r .number ≡ 0 = eqb-zero (r .number) e in
-            let d = g .drawn (sym (g .number-is) ∙ z) in
-            (d .0 ∙ sym (count-means rules question union facts room (to-zero z)), d .1 ∙ sym (list-means rules question union facts room (to-zero z)))
+            let d = g .drawn (sym (g .number-is) ∙ z) in (
+              d .0 ∙ sym (count-means rules question union facts room (to-zero z)),
+              d .1
+                  ∙ sym (list-means rules question union facts room (to-zero z)),
+            )
         go false e =
             let z : r .number ≡ 0 → ⊥ = eqb-other (r .number) e in
             let d = g .refused (λ k. z (g .number-is ∙ k)) in
@@ -144,13 +152,15 @@ module _ (rules question union facts : List ℕ) (p table : List ℕ) (first cou
         (question-refused rules question union p table first count read zero table01 second q asked h) h g
 
     pub all-drawn : second ≡ 0 → (room : ℕ) (r : Answers) (list : List ℕ)
-        → GivesFromUnion p (rulesIn table count) (queryOf q) (q .terms) union facts room r list → Staged rules question union facts room r list
+        → GivesFromUnion p (rulesIn table count) (queryOf q) (q .terms) union facts room r list
+        → Staged rules question union facts room r list
     all-drawn zero′ room r list g =
         let answers : answersOf (factsAsRead p sheetWidth facts) (unionAsRead p sheetWidth union) ≡ theAnswers union facts
         = ap (λ t. answersOf (factsAsRead t sheetWidth facts) (unionAsRead t sheetWidth union)) table01 in
         let terms : q .terms ≡ termsOf question = asked .query zero′ .terms-are ∙ sym (question-arity partners01 sheetWidth question) in
         let number = all-checked rules question union p table first count read zero table01 second q asked zero′ _ refl in
-        gives-along room (answersOf (factsAsRead p sheetWidth facts) (unionAsRead p sheetWidth union)) (theAnswers union facts) _ _ r list answers
+        gives-along room (answersOf (factsAsRead p sheetWidth facts) (unionAsRead p sheetWidth union))
+        (theAnswers union facts) _ _ r list answers
         (ap₂ otherwise number (ap (otherwise (factsNumber facts)) (ap₂ (roomNumber room) terms answers))) g
 
 pub ruleset laws = (needs, rules-final, question-final, all-drawn)

@@ -5,17 +5,14 @@ use mathlib.Core.List.{List}
 use borrow.Author.Needs.{needs}
 use Rattle.words.specs.Limits.{sheetWidth}
 use Rattle.sheets.specs.Partners.{partners01}
-use Rattle.sheets.specs.Showing.{memberPart}
-use Rattle.read_union.specs.Members.{Placed}
+use Rattle.sheets.specs.Showing.{memberPart, Placed}
 use Rattle.answering.specs.TheSheets.{thePart}
 use Rattle.answering.specs.Showing.{Shown}
 
 pub part-shown : (p s part : List ℕ) (m : ℕ) → p ≡ partners01 → part ≡ memberPart p sheetWidth s m → part ≡ thePart s m
 part-shown p s part m e d = d ∙ ap (λ t. memberPart t sheetWidth s m) e
 
-pub place-shown : (p s : List ℕ) (m start size : ℕ) → p ≡ partners01 → Placed p s m start size → Shown s m start size
-place-shown p s m start size e d =
-    let by : Placed partners01 s m start size = subst (λ t. Placed t s m start size) e d in
-    record { start-is = by .start-is; size-is = by .size-is; within = by .within; part = by .part }
+pub place-shown : (p s : List ℕ) (m start size : ℕ) → p ≡ partners01 → Placed p sheetWidth s m start size → Shown s m start size
+place-shown p s m start size e d = subst (λ t. Placed t sheetWidth s m start size) e d
 
 pub ruleset laws = (needs, part-shown, place-shown)

@@ -8,7 +8,7 @@ use Rattle.theory.specs.Syntax.{Rule, Query, UCQ, Fact}
 use Rattle.words.specs.Limits.{sheetWidth}
 use Rattle.sheets.specs.Partners.{partners01}
 use Rattle.sheets.specs.Reading.{rulesAsRead, questionAsRead, unionAsRead, factsAsRead}
-use Rattle.sheets.specs.Showing.{memberPart, partStart}
+use Rattle.sheets.specs.Showing.{memberPart, Placed}
 use Rattle.sheets.specs.Refusals.{Sheets, Which, onlyFacts, refusals, conditionsFor, refusalOf}
 
 -- ---- what the sheets say, as read
@@ -40,10 +40,10 @@ theConditions takes sheets = conditionsFor partners01 sheetWidth takes sheets (r
 abbrev pub SoundFacts : List ℕ → Type 0
 SoundFacts sheet = NotRefused onlyFacts record { rules = []; question = []; union = []; facts = sheet }
 
--- ---- showing a member: the part of the sheet that holds its question, and the index of that part's first byte
+-- ---- showing a member: the part of the sheet that holds its question, and where that part is
 
 abbrev pub thePart : List ℕ → ℕ → List ℕ
 thePart sheet m = memberPart partners01 sheetWidth sheet m
 
-abbrev pub theStart : List ℕ → ℕ → ℕ
-theStart sheet m = partStart partners01 sheetWidth sheet m
+abbrev pub ThePlace : List ℕ → ℕ → ℕ → ℕ → Type 0
+ThePlace sheet m start size = Placed partners01 sheetWidth sheet m start size

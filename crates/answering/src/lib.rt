@@ -1,12 +1,12 @@
 // The library: a union checked against rules and question, answers drawn with it from facts, and a member shown.
-use drawing::Answers;
-use drawing::draw_members;
-use drawing::members::check_members;
-use drawing::refuse;
+use answer_stages::Answers;
+use answer_stages::draw_members;
+use answer_stages::members::check_members;
+use answer_stages::refuse;
 use read_question::read_question;
+use read_records::partners::default_partners;
 use read_rules::read_rules;
 use read_union::member_place;
-use records::partners::default_partners;
 use words::limits::MOST_RULES;
 ghost use mathlib.Core.Path.{_≡_};
 ghost use lib.ListN.{length};
@@ -44,8 +44,8 @@ pub extern "C" fn takwishan_check(rules: &[u8], question: &[u8], union: &[u8]) -
 // count. Where the number is 0 the list holds exactly the tuples of registered objects that the question finds in some round from the facts
 // under the rules, ascending, and zeros after them; on a refusal it is all zeros.
 pub fn answer(rules: &[u8], question: &[u8], union: &[u8], facts: &[u8], list: &mut [u8]) -> Answers
-    ensures { λ r. ⌜ Drawn (now (rules .entry)) (now (question .entry)) (now (union .entry)) (now (facts .entry)) (length (now (list .entry)))
-        (r .number) (r .count) (now (list .exit)) ⌝ }
+    ensures { λ r. ⌜ Drawn (now (rules .entry)) (now (question .entry)) (now (union .entry)) (now (facts .entry))
+        (length (now (list .entry))) (r .number) (r .count) (now (list .exit)) ⌝ }
 {
     let partners = default_partners();
     let mut table = [0u64; MOST_RULES];
@@ -77,8 +77,8 @@ pub extern "C" fn takwishan_answer(
     facts: &[u8],
     list: &mut [u8],
 ) -> Answers
-    ensures { λ r. ⌜ Drawn (now (rules .entry)) (now (question .entry)) (now (union .entry)) (now (facts .entry)) (length (now (list .entry)))
-        (r .number) (r .count) (now (list .exit)) ⌝ }
+    ensures { λ r. ⌜ Drawn (now (rules .entry)) (now (question .entry)) (now (union .entry)) (now (facts .entry))
+        (length (now (list .entry))) (r .number) (r .count) (now (list .exit)) ⌝ }
 {
     answer(rules, question, union, facts, list)
 }

@@ -7,7 +7,8 @@ use mathlib.Core.List.{List, [], _∷_, _++_}
 use lib.Dec.{eqb}
 use Rattle.theory.specs.Lists.{pick, all, pairwise}
 use Rattle.theory.specs.Refusals.{firstRefusal}
-use Rattle.theory.specs.Syntax.{Term, var, const, Atom, concept, role, Basic, named, has, hasInverse, Rule, conceptInclusion, roleInclusion, Query, Step, Member, UCQ, Fact, onAtoms}
+use Rattle.theory.specs.Syntax.{Term, var, const, Atom, concept, role, Basic, named, has, hasInverse, Rule, conceptInclusion, roleInclusion}
+use Rattle.theory.specs.Syntax.{Query, Step, Member, UCQ, Fact, onAtoms}
 use Rattle.theory.specs.Union.{sameQuery}
 use Rattle.words.specs.Limits.{sheetWidth}
 use Rattle.sheets.specs.Bits.{numberAt}
@@ -211,16 +212,20 @@ unfolding numberAt matches pairwise sameRule sameMember onAtoms partners01 numbe
     rulesOf rulesAsRead ruleRefusals refuses1 refuses2 queryAt questionAsRead questionRefusals refuses3 refuses4 refuses5
     unionOf unionAsRead refuses6 factsOf factsAsRead factRefusals refuses12 refuses13
 holds (ofRules r) =
-    matches (pairwise sameRule) r (rulesOf (r .sheet)) (rulesAsRead partners01 sheetWidth (r .sheet)) (numberOf (firstRefusal (ruleRefusals (r .sheet))))
+    matches (pairwise sameRule) r (rulesOf (r .sheet)) (rulesAsRead partners01 sheetWidth (r .sheet))
+    (numberOf (firstRefusal (ruleRefusals (r .sheet))))
 holds (ofQuestion r unread) =
     let q : Query = queryAt sheetWidth (r .sheet) 0 in
-    matches sameQuery r q (questionAsRead partners01 sheetWidth (r .sheet)) (numberOf (firstRefusal (questionRefusals partners01 sheetWidth (r .sheet))))
+    matches sameQuery r q (questionAsRead partners01 sheetWidth (r .sheet))
+    (numberOf (firstRefusal (questionRefusals partners01 sheetWidth (r .sheet))))
     && eqb (numberOf (firstRefusal ((3, refuses3 sheetWidth (r .sheet)) ∷ (4, refuses4 q) ∷ (5, refuses5 q) ∷ []))) unread
 holds (ofCount sheet n) = eqb (memberCount sheet) n
 holds (ofUnion r arity) =
-    matches (pairwise sameMember) r (unionOf sheetWidth (r .sheet)) (unionAsRead partners01 sheetWidth (r .sheet)) (pick (refuses6 partners01 sheetWidth arity (r .sheet)) 6 0)
+    matches (pairwise sameMember) r (unionOf sheetWidth (r .sheet)) (unionAsRead partners01 sheetWidth (r .sheet))
+    (pick (refuses6 partners01 sheetWidth arity (r .sheet)) 6 0)
 holds (ofFacts r) =
-    matches (pairwise (onAtoms eqb)) r (factsOf sheetWidth (r .sheet)) (factsAsRead partners01 sheetWidth (r .sheet)) (numberOf (firstRefusal (factRefusals sheetWidth (r .sheet))))
+    matches (pairwise (onAtoms eqb)) r (factsOf sheetWidth (r .sheet)) (factsAsRead partners01 sheetWidth (r .sheet))
+    (numberOf (firstRefusal (factRefusals sheetWidth (r .sheet))))
 
 pub samples-hold : all holds samples ≡ true
 unfolding all holds samples

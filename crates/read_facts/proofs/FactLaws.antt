@@ -24,7 +24,7 @@ use Rattle.sheets.specs.Refusals.{factRefusals, numberOf}
 use Rattle.sheets.specs.Tests.{factSound, refuses12, refuses13}
 use Rattle.sheets.specs.Laws.Tests.{eqb-comm}
 use Rattle.sheets.specs.Laws.RecordLoops.{left, rowLaws, row-length, fill-ends, no-multiple, too-long, unsound-record, no-refusal}
-use Rattle.records.specs.ReadingLaws.{sheet-refused, sheet-read}
+use Rattle.read_records.specs.ReadIntoLaws.{sheet-refused, sheet-read}
 use Rattle.read_facts.specs.FactSheets.{FactsRead, HasFields}
 
 -- ---- a record's three zero bits, and a concept's second object; z, k and b are the fields that the code took

@@ -9,7 +9,7 @@ use Rattle.words.specs.Records.{factKind, factZeros, factName, factFirst, factS
 use Rattle.words.specs.Words.{factsIn}
 use Rattle.sheets.specs.Reading.{factsAsRead}
 use Rattle.sheets.specs.Refusals.{numberOf, factRefusals}
-use Rattle.records.specs.Reading.{ReadInto}
+use Rattle.read_records.specs.ReadInto.{ReadInto}
 
 pub record FactsRead (partners s table : List ℕ) (number count : ℕ) : Type 0 where
   -- the number is that of the first of 12 and 13 that applies; where none does, the table's first `count` words are the sheet's facts as

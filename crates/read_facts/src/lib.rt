@@ -1,14 +1,14 @@
 // Facts: which records are sound, a fact as read in a word, and a sheet's facts read into a table.
-use records::SheetRead;
-use records::bytes::six;
-use records::fields::fact_first;
-use records::fields::fact_kind;
-use records::fields::fact_name;
-use records::fields::fact_second;
-use records::fields::fact_zeros;
-use records::partners::is_higher;
-use records::partners::lower;
-use records::refused;
+use read_records::SheetRead;
+use read_records::bytes::six;
+use read_records::fields::fact_first;
+use read_records::fields::fact_kind;
+use read_records::fields::fact_name;
+use read_records::fields::fact_second;
+use read_records::fields::fact_zeros;
+use read_records::partners::is_higher;
+use read_records::partners::lower;
+use read_records::refused;
 use words::limits::FACT_BYTES;
 use words::limits::MOST_FACT_BYTES;
 ghost use mathlib.Core.Path.{_≡_};

@@ -1,11 +1,11 @@
 // A question read into a struct, with its refusals.
-use records::bytes::six;
-use records::bytes::three;
-use records::bytes::wide;
-use records::terms::answer_sound;
-use records::terms::atom_sound;
-use records::terms::atom_word;
-use records::terms::widen_term;
+use read_records::bytes::six;
+use read_records::bytes::three;
+use read_records::bytes::wide;
+use read_records::terms::answer_sound;
+use read_records::terms::atom_sound;
+use read_records::terms::atom_word;
+use read_records::terms::widen_term;
 use words::QueryWords;
 use words::is_variable;
 use words::limits::ANSWER_BYTES;
@@ -18,9 +18,10 @@ ghost use mathlib.Core.Path.{_≡_};
 ghost use mathlib.Core.Bool.{true, _&&_};
 ghost use mathlib.Core.List.{map};
 ghost use Prim.Native.Nat.{_+_, _*_, _≤_, _<_};
-ghost use lib.ListN.{length, take, drop};
+ghost use lib.ListN.{length, take};
 ghost use Rattle.theory.specs.Lists.{any, all};
 ghost use Rattle.theory.specs.Syntax.{places, sameTerm, sameAtom};
+ghost use Rattle.theory.specs.Laws.Scans.{someFrom, testAt};
 ghost use Rattle.words.specs.Limits.{sheetWidth, wordTermBound, mostTerms, mostAtoms, answerBytes, recordBytes};
 ghost use Rattle.words.specs.Records.{termOf, atomOf};
 ghost use Rattle.words.specs.Words.{queryOf, TermWords, wordTerm, wordAtom};
@@ -212,7 +213,7 @@ pub fn missing_answer(q: QueryWords) -> bool
 // Whether the atom stands among those from index `from` to below n.
 fn stands_again(atoms: [u64; MOST_ATOMS], from: usize, n: usize, a: u64) -> bool
     requires { ⌜ (from ≤ n) × (n ≤ mostAtoms) ⌝ }
-    ensures { λ r. ⌜ r ≡ any (sameAtom (wordAtom a)) (map wordAtom (drop from (take n atoms))) ⌝ }
+    ensures { λ r. ⌜ r ≡ someFrom (testAt (sameAtom (wordAtom a)) wordAtom atoms) from n ⌝ }
 {
     let mut i = from;
     while i < n {

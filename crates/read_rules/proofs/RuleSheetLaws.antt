@@ -22,7 +22,7 @@ use Rattle.sheets.specs.Tests.{refuses1, refuses2}
 use Rattle.sheets.specs.Laws.RuleRefusals.{rules-all}
 use Rattle.sheets.specs.Laws.RecordLoops.{Nth, left, rowLaws, each-passes, row-length, fill-ends, no-multiple, too-long, unsound-record}
 use Rattle.sheets.specs.Laws.RecordLoops.{no-refusal}
-use Rattle.records.specs.ReadingLaws.{sheet-refused, sheet-read}
+use Rattle.read_records.specs.ReadIntoLaws.{sheet-refused, sheet-read}
 use Rattle.read_rules.specs.RuleWords.{RulesRead}
 
 pub ruleset allLaws = (needs, rowLaws)

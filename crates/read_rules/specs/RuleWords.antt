@@ -8,7 +8,7 @@ use Rattle.words.specs.Records.{basicOf}
 use Rattle.words.specs.Words.{rulesIn}
 use Rattle.sheets.specs.Reading.{rulesAsRead}
 use Rattle.sheets.specs.Refusals.{numberOf, ruleRefusals}
-use Rattle.records.specs.Reading.{ReadInto}
+use Rattle.read_records.specs.ReadInto.{ReadInto}
 
 -- the number is that of the first of 1 and 2 that applies; where none does, the table's first `count` words are the sheet's rules as
 -- read, and the count is their number

@@ -1,9 +1,9 @@
 // Rules: which records are rules, a rule as read, and a sheet's rules read into a table.
-use records::SheetRead;
-use records::bytes::four;
-use records::partners::is_higher;
-use records::partners::lower;
-use records::refused;
+use read_records::SheetRead;
+use read_records::bytes::four;
+use read_records::partners::is_higher;
+use read_records::partners::lower;
+use read_records::refused;
 use words::limits::MOST_RULE_BYTES;
 use words::limits::RULE_BYTES;
 use words::rules::left_form;

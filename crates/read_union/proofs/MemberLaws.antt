@@ -14,9 +14,9 @@ use mir.Val.{Fits}
 use Rattle.theory.specs.Laws.Options.{T-and, is-true}
 use Rattle.words.specs.Limits.{sheetWidth, stepBytes, mostUnionBytes}
 use Rattle.sheets.specs.Format.{questionLength, termCount, memberCount, memberStart, firstQuestion}
-use Rattle.sheets.specs.Showing.{hasMember, memberPart, partStart}
+use Rattle.sheets.specs.Showing.{hasMember, memberPart, partStart, Placed}
 use Rattle.sheets.specs.Tests.{refuses6}
-use Rattle.read_union.specs.Members.{memberEnd, Placed}
+use Rattle.read_union.specs.Members.{memberEnd}
 use Rattle.read_union.proofs.UnionLaws.{first-begins, accepted, at-least, at-most, refused}
 use Rattle.read_union.proofs.RowLaws.{end-begins, end-within, start-within}
 
@@ -44,7 +44,7 @@ module _ (p s : List ℕ) (m : ℕ) where
     has-counted t count d = rw (← on-its-own, t, ← d)
 
   module _ (b : Bool) (e : b ≡ hasMember p sheetWidth s m) where
-    pub not-placed : b ≡ false → Placed p s m 0 0
+    pub not-placed : b ≡ false → Placed p sheetWidth s m 0 0
     unfolding memberPart partStart
     not-placed f = record { start-is = rw (← e, f); size-is = rw (← e, f); within = omega arith; part = rw (← e, f) }
 
@@ -78,7 +78,7 @@ module _ (p s : List ℕ) (m : ℕ) where
           pub byte-within : start + k < length s
           byte-within = let g : memberEnd s (memberStart sheetWidth s m) ≤ length s = ends in omega (arith, leb-true k stepBytes h)
 
-        pub placed : (size : ℕ) → size ≡ questionLength sheetWidth s (start + stepBytes) → Placed p s m (start + stepBytes) size
+        pub placed : (size : ℕ) → size ≡ questionLength sheetWidth s (start + stepBytes) → Placed p sheetWidth s m (start + stepBytes) size
         unfolding memberPart partStart
         placed size c =
             let g : memberEnd s start ≡ memberEnd s (memberStart sheetWidth s m) = ap (λ a. memberEnd s a) d in
@@ -94,7 +94,7 @@ module _ (p s : List ℕ) (m : ℕ) where
 
 -- ---- the part at a place
 
-module _ (p s : List ℕ) (m start size : ℕ) (at : Placed p s m start size) where
+module _ (p s : List ℕ) (m start size : ℕ) (at : Placed p sheetWidth s m start size) where
   pub part-ends : start + size ≤ length s
   part-ends = at .within
 

@@ -16,21 +16,21 @@ use mir.Val.{Fits}
 use Rattle.theory.specs.Lists.{pick, numbers}
 use Rattle.theory.specs.Syntax.{Member}
 use Rattle.theory.specs.Laws.Options.{is-true}
-use Rattle.sheets.specs.Bits.{numberAt}
-use Rattle.sheets.specs.Format.{queryAt, memberCount, memberStart, questionStart, memberAt, unionOf}
 use Rattle.words.specs.Records.{stepOf}
-use Rattle.sheets.specs.Laws.QuestionRefusals.{questionSound-tells}
-use Rattle.sheets.specs.Laws.UnionRefusals.{start-rises}
-use Rattle.sheets.specs.Laws.Tests.{records-length}
-use Rattle.records.specs.ReadingLaws.{sheet-refused, sheet-read}
-use Rattle.read_question.specs.QuestionWords.{ReadFrom}
-use Rattle.read_union.specs.Members.{memberEnd, Readable, RowOf, NarrowRow, NarrowRows, UnionRead}
-use Rattle.sheets.specs.Partners.{queryAsRead, memberAsRead}
-use Rattle.sheets.specs.Reading.{unionAsRead}
-use Rattle.sheets.specs.Tests.{questionSound, refuses6}
 use Rattle.words.specs.Words.{TermWords, queryOf, memberOf, unionIn, stride, tableWords}
 use Rattle.words.specs.declared.QueryWords.{QueryWords}
 use Rattle.words.specs.Limits.{sheetWidth, wordTermBound, mostTerms, mostAtoms, mostMembers, countBytes, stepBytes, mostUnionBytes}
+use Rattle.sheets.specs.Bits.{numberAt}
+use Rattle.sheets.specs.Format.{queryAt, memberCount, memberStart, questionStart, memberAt, unionOf}
+use Rattle.sheets.specs.Laws.QuestionRefusals.{questionSound-tells}
+use Rattle.sheets.specs.Laws.UnionRefusals.{start-rises}
+use Rattle.sheets.specs.Laws.Tests.{records-length}
+use Rattle.sheets.specs.Partners.{queryAsRead, memberAsRead}
+use Rattle.sheets.specs.Reading.{unionAsRead}
+use Rattle.sheets.specs.Tests.{questionSound, refuses6}
+use Rattle.read_records.specs.ReadIntoLaws.{sheet-refused, sheet-read}
+use Rattle.read_question.specs.QuestionWords.{ReadFrom}
+use Rattle.read_union.specs.Members.{memberEnd, Readable, RowOf, NarrowRow, NarrowRows, UnionRead}
 use Rattle.read_union.proofs.UnionLaws.{first-begins, next-start, accepted, at-least, at-most}
 
 -- ---- the words of a row

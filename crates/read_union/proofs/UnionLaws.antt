@@ -14,16 +14,16 @@ use borrow.Author.Tests.{le-leb, lt-leb, leb-true}
 use Rattle.theory.specs.Lists.{pick, all, numbers}
 use Rattle.theory.specs.Laws.Lists.{all-iff}
 use Rattle.theory.specs.Laws.Options.{T-and, T-no, is-true, is-false, pick-true}
+use Rattle.words.specs.Words.{queryOf}
+use Rattle.words.specs.declared.QueryWords.{QueryWords}
+use Rattle.words.specs.Limits.{sheetWidth, mostTerms, mostAtoms, mostMembers, countBytes, stepBytes, mostQuestionBytes, mostUnionBytes}
 use Rattle.sheets.specs.Format.{questionLength, termCount, atomCount, queryAt, memberCount, memberStart, questionStart}
 use Rattle.sheets.specs.Conditions.{Malformed}
 use Rattle.sheets.specs.Laws.Tests.{eqb-comm, lt-or-le, numbers-iff}
 use Rattle.sheets.specs.Laws.UnionRefusals.{Not6, not6-iff, start-rises}
-use Rattle.read_union.specs.Members.{memberEnd, wholeAndSound, endIfSound}
 use Rattle.sheets.specs.Partners.{queryAsRead}
 use Rattle.sheets.specs.Tests.{questionSound, refuses4, refuses5, memberSoundAt, memberSound, refuses6}
-use Rattle.words.specs.Words.{queryOf}
-use Rattle.words.specs.declared.QueryWords.{QueryWords}
-use Rattle.words.specs.Limits.{sheetWidth, mostTerms, mostAtoms, mostMembers, countBytes, stepBytes, mostQuestionBytes, mostUnionBytes}
+use Rattle.read_union.specs.Members.{memberEnd, wholeAndSound, endIfSound}
 
 -- ---- where members begin and end
 

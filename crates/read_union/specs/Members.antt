@@ -1,5 +1,4 @@
--- What reading a union gives, what showing a member gives, and what the reader hands from one function to the next: a member's end, and a
--- member's row of words.
+-- What reading a union gives, and what the reader hands from one function to the next: a member's end, and a member's row of words.
 use mathlib.Core.Path.{_≡_}
 use Prim.Native.Nat.{ℕ, _+_, _*_, _≤_, _<_}
 use mathlib.Core.Bool.{Bool, true, _&&_}
@@ -12,9 +11,8 @@ use Rattle.words.specs.Limits.{sheetWidth, wordTermBound, mostTerms, mostAtoms,
 use Rattle.words.specs.Words.{memberOf, unionIn, stride}
 use Rattle.sheets.specs.Format.{questionLength, memberStart, questionStart}
 use Rattle.sheets.specs.Reading.{unionAsRead}
-use Rattle.sheets.specs.Showing.{memberPart, partStart}
 use Rattle.sheets.specs.Tests.{questionSound, memberSoundAt, refuses6}
-use Rattle.records.specs.Reading.{ReadInto}
+use Rattle.read_records.specs.ReadInto.{ReadInto}
 
 -- ---- the pledges
 
@@ -37,15 +35,6 @@ pub record UnionRead (partners s : List ℕ) (arity : ℕ) (table : List ℕ) (n
   -- which is not 0
   pub some : number ≡ 0 → 1 ≤ count
   pub narrow : NarrowRows table count
-
--- the place of the part that holds member m's question
-pub record Placed (partners s : List ℕ) (m start size : ℕ) : Type 0 where
-  -- its first byte, 0 for an empty part, and its length
-  pub start-is : start ≡ partStart partners sheetWidth s m
-  pub size-is : size ≡ length (memberPart partners sheetWidth s m)
-  -- it lies within the sheet, and is that part
-  pub within : start + size ≤ length s
-  pub part : take size (drop start s) ≡ memberPart partners sheetWidth s m
 
 -- ---- between the reader's functions
 

@@ -5,10 +5,10 @@ use read_question::question_sound;
 use read_question::read_query;
 use read_question::repeated_atom;
 use read_question::term_count;
-use records::SheetRead;
-use records::bytes::four;
-use records::bytes::two;
-use records::refused;
+use read_records::SheetRead;
+use read_records::bytes::four;
+use read_records::bytes::two;
+use read_records::refused;
 use words::QueryWords;
 use words::limits::COUNT_BYTES;
 use words::limits::MEMBER_WORDS;
@@ -28,10 +28,10 @@ ghost use Rattle.words.specs.Records.{stepOf};
 ghost use Rattle.words.specs.Words.{TermWords, queryOf, unionIn, stride, tableWords};
 ghost use Rattle.sheets.specs.Format.{questionLength, memberStart, memberCount, memberAt};
 ghost use Rattle.sheets.specs.Partners.{memberAsRead};
-ghost use Rattle.sheets.specs.Showing.{hasMember, memberPart};
+ghost use Rattle.sheets.specs.Showing.{hasMember, memberPart, Placed};
 ghost use Rattle.sheets.specs.Tests.{memberSoundAt, memberSound, refuses6};
 ghost use Rattle.read_question.specs.QuestionWords.{longestCounted};
-ghost use Rattle.read_union.specs.Members.{memberEnd, endIfSound, Readable, RowOf, NarrowRows, UnionRead, Placed};
+ghost use Rattle.read_union.specs.Members.{memberEnd, endIfSound, Readable, RowOf, NarrowRows, UnionRead};
 
 // How many members the sheet says that it has.
 fn member_count(s: &[u8]) -> usize
@@ -237,7 +237,7 @@ pub struct Place {
 
 // The place of the part that holds the question of member m; an empty part if the sheet meets 6 on its own or has no such member.
 pub fn member_place(sheet: &[u8], m: usize, partners: &[u16]) -> Place
-    ensures { λ r. ⌜ Placed (now (partners .entry)) (now (sheet .entry)) m (r .start) (r .length) ⌝ }
+    ensures { λ r. ⌜ Placed (now (partners .entry)) sheetWidth (now (sheet .entry)) m (r .start) (r .length) ⌝ }
 {
     if has_member(sheet, m, partners) {
         let start = member_start(sheet, m) + STEP_BYTES;

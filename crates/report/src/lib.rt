@@ -1,14 +1,14 @@
 // The text of an outcome, as the program prints it (01, "The program and its cards").
 use io::decimal;
-use records::bytes::wide;
+use read_records::bytes::wide;
 ghost use mathlib.Core.Path.{_≡_};
 ghost use Prim.Native.Nat.{_+_, _*_, _≤_, _<_};
 ghost use mathlib.Core.Bool.{cond};
 ghost use mathlib.Core.List.{_∷_, [], _++_};
 ghost use lib.ListN.{length, take};
-ghost use Rattle.io.specs.Counts.{Counts};
 ghost use Rattle.report.specs.Report.{decimalOf, objectAt, objectsAt, line, linesAt, firstLine, newline, space, report as reportOf};
 ghost use Rattle.report.specs.Put.{Put};
+ghost use Rattle.io.specs.Counts.{Counts};
 
 // Puts the piece behind the first `end` bytes of out, and returns where it ends.
 fn put(out: &mut [u8], end: usize, piece: &[u8]) -> usize

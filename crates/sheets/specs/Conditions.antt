@@ -1,5 +1,6 @@
 -- 01, "What the desk turns back": the conditions of refusals 1 to 6, 12 and 13, in 01's words (those of 7 to 11 are in the crate
--- `theory`, Union). Beside each stands its test, in Tests; Laws/ has that the test passes exactly where the condition holds. `at` is the byte at
+-- `theory`, Union). Beside each stands its test, in Tests; Laws/ has that the test passes exactly where the condition holds. `at` is the
+-- byte at
 -- which a question begins, w the width of an object's number.
 use mathlib.Core.Path.{_≡_}
 use mathlib.Core.Logic.{_⊎_}
@@ -10,7 +11,8 @@ use Rattle.theory.specs.Lists.{_∈_, At}
 use Rattle.theory.specs.Syntax.{Term, var, Atom, Query, places, terms}
 use Rattle.words.specs.Limits.{variableBound, mostTerms, mostAtoms, mostMembers, ruleBytes, recordBytes, mostRuleBytes, mostFactBytes}
 use Rattle.words.specs.Records.{ruleKind, leftForm, rightForm, atomKind, atomZero, atomSecond, factKind, factZeros, factSecond}
-use Rattle.sheets.specs.Format.{ruleRecords, factRecords, termCount, atomCount, questionLength, answerRecords, atomRecords, queryAt, memberCount, memberStart, questionStart}
+use Rattle.sheets.specs.Format.{ruleRecords, factRecords, termCount, atomCount, questionLength, answerRecords, atomRecords, queryAt}
+use Rattle.sheets.specs.Format.{memberCount, memberStart, questionStart}
 use Rattle.sheets.specs.Partners.{queryAsRead}
 
 -- ---- rules

@@ -1,4 +1,5 @@
--- The packed sheets, in reading order: Bits, Format, Partners, Reading, Tests, Conditions, Refusals, Showing, Packing, AnswerList; and their laws.
+-- The packed sheets, in reading order: Bits, Format, Partners, Reading, Tests, Conditions, Refusals, Showing, Packing, AnswerList; and
+-- their laws.
 pub mod Bits
 pub mod Format
 pub mod Partners

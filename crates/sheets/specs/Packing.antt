@@ -5,8 +5,10 @@ use Prim.Native.Nat.{ℕ, zero, suc, _+_, _*_, _/_, _%_, _^_, _≤_, _<_}
 use mathlib.Core.List.{List, [], _∷_, _++_, map, flatMap}
 use lib.ListN.{length}
 use Rattle.theory.specs.Lists.{_∈_, pick}
-use Rattle.theory.specs.Syntax.{Term, var, const, Atom, concept, role, Basic, named, has, hasInverse, Rule, conceptInclusion, roleInclusion, Query, Step, Member, UCQ, Fact}
-use Rattle.words.specs.Limits.{variableBound, nameBound, mostRules, mostTerms, mostAtoms, mostMembers, mostFacts, stepBytes, countBytes, answerBytes, recordBytes}
+use Rattle.theory.specs.Syntax.{Term, var, const, Atom, concept, role, Basic, named, has, hasInverse, Rule, conceptInclusion, roleInclusion}
+use Rattle.theory.specs.Syntax.{Query, Step, Member, UCQ, Fact}
+use Rattle.words.specs.Limits.{variableBound, nameBound, mostRules, mostTerms, mostAtoms, mostMembers, mostFacts, stepBytes, countBytes}
+use Rattle.words.specs.Limits.{answerBytes, recordBytes}
 
 -- ---- bytes and bits: "packed with the most significant bit first"
 

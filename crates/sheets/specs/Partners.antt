@@ -7,7 +7,8 @@ use mathlib.Core.List.{List, [], _∷_, map}
 use lib.Dec.{ltb}
 use lib.ListN.{getD}
 use Rattle.theory.specs.Lists.{pick}
-use Rattle.theory.specs.Syntax.{Atom, concept, role, Basic, named, has, hasInverse, Rule, conceptInclusion, roleInclusion, Query, Member, oriented}
+use Rattle.theory.specs.Syntax.{Atom, concept, role, Basic, named, has, hasInverse, Rule, conceptInclusion, roleInclusion, Query, Member}
+use Rattle.theory.specs.Syntax.{oriented}
 
 -- "A constant table of 16 role partners: 0 and 1 (drives, driven by), 2 and 3 (feeds, fed by), 4 and 5 (part of, has part), 6 and 7
 -- (opens, opened by); 8 to 15 are entered as their own"

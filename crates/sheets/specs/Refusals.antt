@@ -1,4 +1,5 @@
--- 01, "What the desk turns back": refusals 1 to 13 in one list, each as a test, which computes, and as a condition, which says what is meant.
+-- 01, "What the desk turns back": refusals 1 to 13 in one list, each as a test, which computes, and as a condition, which says what is
+-- meant.
 -- A call's own list is what of it reads no sheet but those that the call takes; 14 is drawing's own (answering/specs/Drawing).
 use mathlib.Core.Path.{_≡_}
 use Prim.Native.Nat.{ℕ}
@@ -137,7 +138,8 @@ module _ (partners : List ℕ) (w : ℕ) where
   unfolding refusals testsFor firstRefusal
   refusalOf takes sheets = firstRefusal (testsFor takes sheets refusals)
 
-  -- "Rules are sound if they meet neither 1 nor 2, a question if none of 3 to 5, a union if not 6, facts if neither 12 nor 13. A sheet's own
+  -- "Rules are sound if they meet neither 1 nor 2, a question if none of 3 to 5, a union if not 6, facts if neither 12 nor 13. A sheet's
+  -- own
   -- refusals that checking or drawing gains later count here too": sheets are sound if none of the list's refusals that read them applies.
   abbrev pub Sound : Which → Sheets → Type 0
   Sound takes sheets = refusalOf takes sheets ≡ none

@@ -9,7 +9,8 @@ use Rattle.theory.specs.Syntax.{Term, var, const, Atom, Query, places, sameTerm
 use Rattle.words.specs.Limits.{variableBound, mostTerms, mostAtoms, mostMembers, ruleBytes, recordBytes, mostRuleBytes, mostFactBytes}
 use Rattle.words.specs.Records.{isRule, atomKind, atomZero, atomFirst, atomSecond, factKind, factZeros, factSecond}
 use Rattle.sheets.specs.Bits.{numberAt}
-use Rattle.sheets.specs.Format.{recordsFrom, ruleRecords, factRecords, termCount, atomCount, questionLength, answerRecords, atomRecords, queryAt, memberCount, memberStart, questionStart}
+use Rattle.sheets.specs.Format.{recordsFrom, ruleRecords, factRecords, termCount, atomCount, questionLength, answerRecords}
+use Rattle.sheets.specs.Format.{atomRecords, queryAt, memberCount, memberStart, questionStart}
 use Rattle.sheets.specs.Partners.{queryAsRead}
 
 -- ---- 1 and 2: rules

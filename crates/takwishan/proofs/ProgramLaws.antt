@@ -11,14 +11,14 @@ use borrow.Author.Needs.{needs}
 use lib.Dec.{T, leb·zero}
 use lib.IntN.{ℤ, pos, negsuc}
 use lib.Signed.{leZ}
-use Rattle.io.specs.Counts.{Counts, clamped}
 use Rattle.answering.specs.Drawing.{Outcome, outcome}
 use Rattle.report.specs.Report.{report}
 use Rattle.report.specs.Text.{listRoom, textRoom, textFor}
 use Rattle.report.specs.Laws.Printing.{fits, list-long}
 use Rattle.takwishan.specs.Files.{rulesLimit, questionLimit, unionLimit, factsLimit}
-use Rattle.takwishan.specs.Files.{rulesFile, questionFile, unionFile, factsFile, nameOf, Reads, Grown, Taken}
+use Rattle.takwishan.specs.Files.{rulesFile, questionFile, unionFile, factsFile, fileName, Reads, Grown, Taken}
 use Rattle.takwishan.specs.Laws.Whole.{whole-files}
+use Rattle.io.specs.Counts.{Counts, clamped}
 
 -- ---- reading
 
@@ -49,16 +49,16 @@ buffer-full before sheet done h l = record { within = counted done sheet h; long
 
 -- ---- the four files
 
-pub rules-read : (sheet : List ℕ) → length sheet ≡ suc rulesLimit → Reads (nameOf rulesFile) sheet
+pub rules-read : (sheet : List ℕ) → length sheet ≡ suc rulesLimit → Reads (fileName rulesFile) sheet
 rules-read sheet h = record { file = rulesFile; named = refl; room = h }
 
-pub question-read : (sheet : List ℕ) → length sheet ≡ suc questionLimit → Reads (nameOf questionFile) sheet
+pub question-read : (sheet : List ℕ) → length sheet ≡ suc questionLimit → Reads (fileName questionFile) sheet
 question-read sheet h = record { file = questionFile; named = refl; room = h }
 
-pub union-read : (sheet : List ℕ) → length sheet ≡ suc unionLimit → Reads (nameOf unionFile) sheet
+pub union-read : (sheet : List ℕ) → length sheet ≡ suc unionLimit → Reads (fileName unionFile) sheet
 union-read sheet h = record { file = unionFile; named = refl; room = h }
 
-pub facts-read : (sheet : List ℕ) → length sheet ≡ suc factsLimit → Reads (nameOf factsFile) sheet
+pub facts-read : (sheet : List ℕ) → length sheet ≡ suc factsLimit → Reads (fileName factsFile) sheet
 facts-read sheet h = record { file = factsFile; named = refl; room = h }
 
 -- ---- the question's number of terms

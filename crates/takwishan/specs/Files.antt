@@ -7,9 +7,9 @@ use mathlib.Core.Bool.{Bool, false}
 use mathlib.Core.List.{List}
 use lib.ListN.{length, take}
 use Rattle.words.specs.Limits.{sheetWidth, mostRuleBytes, mostQuestionBytes, mostUnionBytes, mostFactBytes}
-use Rattle.io.specs.Counts.{Counts}
 use Rattle.report.specs.Ascii.{ascii}
 use Rattle.report.specs.Text.{textFor}
+use Rattle.io.specs.Counts.{Counts}
 
 -- ---- names and limits
 
@@ -35,11 +35,11 @@ pub data File : Type 0 where
   unionFile : File
   factsFile : File
 
-abbrev pub nameOf : File → List ℕ
-nameOf rulesFile = ascii "rules.bin"
-nameOf questionFile = ascii "question.bin"
-nameOf unionFile = ascii "union.bin"
-nameOf factsFile = ascii "facts.bin"
+abbrev pub fileName : File → List ℕ
+fileName rulesFile = ascii "rules.bin"
+fileName questionFile = ascii "question.bin"
+fileName unionFile = ascii "union.bin"
+fileName factsFile = ascii "facts.bin"
 
 abbrev pub limitOf : File → ℕ
 limitOf rulesFile = rulesLimit
@@ -52,7 +52,7 @@ limitOf factsFile = factsLimit
 -- A file is read into a buffer with room for one byte beyond its limit: a longer file fills it, and is then refused for its length.
 pub record Reads (name buffer : List ℕ) : Type 0 where
   pub file : File
-  pub named : name ≡ nameOf file
+  pub named : name ≡ fileName file
   pub room : length buffer ≡ suc (limitOf file)
 
 -- one read behind the first `done` bytes of a buffer
@@ -99,7 +99,8 @@ pub record TextOf (rules : List ℕ) (r : ℕ) (question : List ℕ) (q : ℕ) (
   -- what was read is four sheets, and this is their text
   pub sheets : text ≡ textFor (take r rules) (take q question) (take u union) (take f facts)
   -- and it is the text for the four files that were read, however long they are
-  pub files : (rules′ question′ union′ facts′ : List ℕ) → HoldsFile rules′ rules r → HoldsFile question′ question q → HoldsFile union′ union u
+  pub files : (rules′ question′ union′ facts′ : List ℕ) → HoldsFile rules′ rules r → HoldsFile question′ question q
+      → HoldsFile union′ union u
       → HoldsFile facts′ facts f → text ≡ textFor rules′ question′ union′ facts′
 
 -- a text that may be printed: that of some four sheets, whole

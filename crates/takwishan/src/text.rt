@@ -1,14 +1,14 @@
 // The text that the program prints for four sheets.
 use crate::files::Lengths;
 use answering::answer;
-use records::bytes::wide;
+use read_records::bytes::wide;
 use report::put_report;
 ghost use mathlib.Core.Path.{_≡_};
 ghost use Prim.Native.Nat.{_/_, _≤_};
 ghost use lib.ListN.{length, take, getD};
-ghost use Rattle.io.specs.Counts.{Counts};
 ghost use Rattle.report.specs.Text.{listRoom, textRoom, textFor};
 ghost use Rattle.takwishan.specs.Files.{Filled, TextOf};
+ghost use Rattle.io.specs.Counts.{Counts};
 
 // "Its answer list has 16,384 bytes."
 const LIST: usize = 16384;

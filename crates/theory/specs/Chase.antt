@@ -4,7 +4,8 @@ use Prim.Native.Nat.{ℕ, zero, suc}
 use mathlib.Core.Logic.{_⊎_}
 use mathlib.Core.List.{List, [], map}
 use Rattle.theory.specs.Lists.{_∈_, At}
-use Rattle.theory.specs.Syntax.{Term, Atom, role, Rule, conceptInclusion, roleInclusion, Query, Member, UCQ, Fact, Thing, object, null, mapAtom, value, instance, oriented}
+use Rattle.theory.specs.Syntax.{Term, Atom, role, Rule, conceptInclusion, roleInclusion, Query, Member, UCQ, Fact, Thing, object}
+use Rattle.theory.specs.Syntax.{null, mapAtom, value, instance, oriented}
 
 -- what is held: a set of atoms over things
 abbrev pub Held : Type 1

@@ -8,7 +8,8 @@ use mathlib.Core.Logic.{_⊎_}
 use lib.Dec.{eqb, leb, ltb}
 use lib.ListN.{length, getElem?, set}
 use Rattle.theory.specs.Lists.{pick, guard, andThen, any, count, once, toList, numbers}
-use Rattle.theory.specs.Syntax.{Term, var, const, Atom, concept, role, Basic, named, has, hasInverse, Rule, conceptInclusion, roleInclusion, Query, places, terms, mapAtom, subst-term, instance, oriented, sameTerm, sameAtom}
+use Rattle.theory.specs.Syntax.{Term, var, const, Atom, concept, role, Basic, named, has, hasInverse, Rule, conceptInclusion}
+use Rattle.theory.specs.Syntax.{roleInclusion, Query, places, terms, mapAtom, subst-term, instance, oriented, sameTerm, sameAtom}
 
 -- 01: loose. "A variable is loose if it stands exactly once in the atoms and not among the answer terms." Places are counted,
 -- so x in P(x,x) stands twice.

@@ -185,7 +185,8 @@ check rules q union =
 -- the numbers of rule steps behind the members so far, and those of the rest
 unfoldable pub depthsAfter : List ℕ → UCQ → List ℕ
 depthsAfter known [] = known
-depthsAfter known (m ∷ ms) = depthsAfter (known ++ (pick (eqb (m .step .kind) 1) (suc (getD known (m .step .parent) 0)) (getD known (m .step .parent) 0) ∷ [])) ms
+depthsAfter known (m ∷ ms) =
+    depthsAfter (known ++ (pick (eqb (m .step .kind) 1) (suc (getD known (m .step .parent) 0)) (getD known (m .step .parent) 0) ∷ [])) ms
 
 -- the largest number of rule steps behind any member
 unfoldable pub depth : UCQ → ℕ

@@ -1,5 +1,6 @@
--- What variables below 32 say of words, loops over words, and facts as words.
+-- 01's limits in its own numbers, variables below 32, members in a table, loops over a query's words, and facts as words.
+pub mod Limits
 pub mod LowVariables
-pub mod Loops
+pub mod Rows
 pub mod Scans
 pub mod WholeFacts

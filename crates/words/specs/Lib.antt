@@ -2,5 +2,6 @@
 pub mod Limits
 pub mod Records
 pub mod Words
+pub mod Rows
 pub mod FactWords
 pub mod Laws

@@ -5,7 +5,8 @@ use mathlib.Core.Bool.{Bool, _&&_}
 use mathlib.Core.Option.{Option}
 use lib.Dec.{eqb, ltb}
 use Rattle.theory.specs.Lists.{pick, guard}
-use Rattle.theory.specs.Syntax.{Term, var, const, Atom, concept, role, Basic, named, has, hasInverse, Rule, conceptInclusion, roleInclusion, Step, Fact}
+use Rattle.theory.specs.Syntax.{Term, var, const, Atom, concept, role, Basic, named, has, hasInverse, Rule, conceptInclusion, roleInclusion}
+use Rattle.theory.specs.Syntax.{Step, Fact}
 
 -- the `width` bits of x that have `below` bits after them; 01: "packed with the most significant bit first"
 abbrev pub field : ℕ → ℕ → ℕ → ℕ

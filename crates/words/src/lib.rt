@@ -1,7 +1,9 @@
 // Words: a query in a struct, and terms and atoms as numbers.
 pub mod facts;
 pub mod limits;
+pub mod rows;
 pub mod rules;
+pub mod steps;
 
 ghost use mathlib.Core.Path.{_≡_};
 ghost use mathlib.Core.Bool.{true, _&&_};

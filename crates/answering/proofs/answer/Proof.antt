@@ -3,23 +3,10 @@ use Rattle.answering.proofs.EntryLaws.{laws, with-outcome}
 use Rattle.answering.proofs.answer.Statement.{statement}
 use Rattle.answering.proofs.answer.Tie as tie
 
-returns : tie.Need-returns
-returns c = with-outcome _ _ _ _ _ _ _ (search laws)
-
-returns-2 : tie.Need-returns-2
-returns-2 c = with-outcome _ _ _ _ _ _ _ (search laws)
-
-returns-3 : tie.Need-returns-3
-returns-3 c = with-outcome _ _ _ _ _ _ _ (search laws)
-
 pub answer-spec : {M : Type 1} → statement M
 answer-spec =
     tie.close
-    (tie.spec
-    (λ c κs. search laws)
-    (λ c. search laws) (λ c. search laws) (λ c κs. search laws)
-    (λ c κs. search laws) (λ c. search laws) returns
-    (λ c. search laws) (λ c κs. search laws)
-    (λ c κs. search laws) (λ c. search laws) returns-2
-    (λ c. search laws) (λ c. search laws) (λ c κs. (search readLaws, search readLaws))
-    (λ c. search laws) returns-3)
+    (tie.spec (λ c κs. search laws) (λ c. search laws) (λ c. search laws) (λ c κs. search laws) (λ c κs. search laws) (λ c. search laws)
+    (λ c. with-outcome _ _ _ _ _ _ _ (search laws)) (λ c. search laws) (λ c κs. search laws) (λ c κs. search laws) (λ c. search laws)
+    (λ c. with-outcome _ _ _ _ _ _ _ (search laws)) (λ c. search laws) (λ c. search laws) (λ c κs. (search readLaws, search readLaws))
+    (λ c. search laws) (λ c. with-outcome _ _ _ _ _ _ _ (search laws)))

@@ -74,7 +74,8 @@ module _ {X : Type 0} (f : X → List ℕ) (size : ℕ) where
 -- ---- the list of all answers
 
 -- in an ascending list the earlier of two is less
-ascending-at : {X : Type 0} (Less : X → X → Type 0) (xs : List X) → Ascending Less xs → (j k : ℕ) {x y : X} → j < k → At xs j x → At xs k y → Less x y
+ascending-at : {X : Type 0} (Less : X → X → Type 0) (xs : List X) → Ascending Less xs → (j k : ℕ) {x y : X} → j < k → At xs j x → At xs k y
+    → Less x y
 ascending-at Less [] a j k l d e = absurd (none≢some d)
 ascending-at Less (z ∷ zs) a j zero l d e = absurd (not-suc-le-zero l)
 ascending-at Less (z ∷ zs) a zero (suc k) {x} {y} l d e = subst (λ w. Less w y) (some-inj d) (a .0 y (at-mem zs k e))
@@ -100,7 +101,8 @@ module _ (answers : List (List ℕ)) (terms room : ℕ) (known : (t : List ℕ) 
   answer-at : (k : ℕ) → k < length answers → (t : List ℕ) → InRange t → part k ≡ tupleBytes t → At answers k t
   answer-at k l t h e =
       elim (at-or-past answers k) [
-        | inl (u, a) ↦ (let d : u ≡ t = tuple-unique u t (known u (at-mem answers k a) .0) h (sym (part-of k a) ∙ e) in subst (λ (v : List ℕ). At answers k v) d a)
+        | inl (u, a) ↦ (let d : u ≡ t = tuple-unique u t (known u (at-mem answers k a) .0) h (sym (part-of k a) ∙ e) in
+            subst (λ (v : List ℕ). At answers k v) d a)
         | inr m ↦ absurd (omega arith)
       ]
 
@@ -118,5 +120,6 @@ module _ (answers : List (List ℕ)) (terms room : ℕ) (known : (t : List ℕ) 
   pub listed-rest : drop (tupleSize terms * length answers) (listBytes room answers) ≡ replicate (room - tupleSize terms * length answers) 0
   unfolding listBytes
   listed-rest =
-      drop-at (flatMap tupleBytes answers) (replicate (room - length (flatMap tupleBytes answers)) 0) (tupleSize terms * length answers) length-answers
+      drop-at (flatMap tupleBytes answers) (replicate (room - length (flatMap tupleBytes answers)) 0)
+      (tupleSize terms * length answers) length-answers
       ∙ ap (λ n. replicate (room - n) 0) length-answers

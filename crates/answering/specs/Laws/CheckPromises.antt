@@ -29,7 +29,8 @@ module _ (rules question union : List ℕ) where
   pub accepted-means : AcceptedFor rules question union ↔ NoneHolds (theConditions checking (sheetsOf rules question union))
   accepted-means = passed-iff partners01 sheetWidth (sheetsOf rules question union) checking
 
-  pub number-means : (n : ℕ) → 0 < n → (checkNumber rules question union ≡ n) ↔ First (theConditions checking (sheetsOf rules question union)) n
+  pub number-means : (n : ℕ) → 0 < n → (checkNumber rules question union ≡ n)
+      ↔ First (theConditions checking (sheetsOf rules question union)) n
   number-means n positive = positive-iff partners01 sheetWidth (sheetsOf rules question union) n positive
 
   -- Demand 3: on every union that is accepted, and on all sound facts, both readers find the same tuples. (That the facts are sound is

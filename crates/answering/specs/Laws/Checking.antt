@@ -12,9 +12,11 @@ use Rattle.theory.specs.Union.{Accepted, check}
 use Rattle.theory.specs.Laws.Options.{none≢some, some-inj}
 use Rattle.theory.specs.Laws.Union.{check-accepts}
 use Rattle.sheets.specs.Format.{termCount}
-use Rattle.sheets.specs.Refusals.{Sheets, onlyRules, questionAndUnion, checking, refusalOf, Sound, numberOf, refusals, conditionsFor, ruleRefusals, questionRefusals, readRules, readQuestion, readUnion}
+use Rattle.sheets.specs.Refusals.{Sheets, onlyRules, questionAndUnion, checking, refusalOf, Sound, numberOf, refusals, conditionsFor}
+use Rattle.sheets.specs.Refusals.{ruleRefusals, questionRefusals, readRules, readQuestion, readUnion}
 use Rattle.sheets.specs.Tests.{refuses6}
-use Rattle.sheets.specs.Laws.OneList.{first-positive, number-stops, number-goes-on, unionRefusals, checking-first, rules-only, question-and-union, number-zero, refused-iff}
+use Rattle.sheets.specs.Laws.OneList.{first-positive, number-stops, number-goes-on, unionRefusals, checking-first, rules-only}
+use Rattle.sheets.specs.Laws.OneList.{question-and-union, number-zero, refused-iff}
 
 -- a number other than 0 is that of a refusal
 pub numbered : (o : Option ℕ) (n : ℕ) → 0 < n → (numberOf o ≡ n) ↔ (o ≡ some n)
@@ -66,21 +68,26 @@ module _ (partners : List ℕ) (w : ℕ) (sheets : Sheets) where
         λ ok. first ∙ pass .1 (sym rules ∙ ok .0, sym middle ∙ ok .1, accepts .1 (ok .2)),
       )
 
-  pub positive-iff : (n : ℕ) → 0 < n → (numberOf (refusalOf partners w checking sheets) ≡ n) ↔ First (conditionsFor partners w checking sheets (refusals partners w)) n
+  pub positive-iff : (n : ℕ) → 0 < n → (numberOf (refusalOf partners w checking sheets) ≡ n)
+      ↔ First (conditionsFor partners w checking sheets (refusals partners w)) n
   positive-iff n l = Iff·trans (numbered (refusalOf partners w checking sheets) n l) (refused-iff partners w sheets checking n)
 
   -- ---- sheet by sheet: a refusal is final
 
   pub rules-stop : numberOf rulesFirst ≢ 0 → numberOf (refusalOf partners w checking sheets) ≡ numberOf rulesFirst
-  rules-stop h = ap numberOf (checking-first partners w sheets) ∙ number-stops rulesFirst (orElse questionFirst (orElse unionFirst checkFirst)) h
+  rules-stop h =
+      ap numberOf (checking-first partners w sheets) ∙ number-stops rulesFirst (orElse questionFirst (orElse unionFirst checkFirst)) h
 
-  rules-pass : numberOf rulesFirst ≡ 0 → numberOf (refusalOf partners w checking sheets) ≡ numberOf (orElse questionFirst (orElse unionFirst checkFirst))
+  rules-pass : numberOf rulesFirst ≡ 0 → numberOf (refusalOf partners w checking sheets)
+      ≡ numberOf (orElse questionFirst (orElse unionFirst checkFirst))
   unfolding ruleRefusals all
   rules-pass e =
       ap numberOf (checking-first partners w sheets)
-      ∙ number-goes-on rulesFirst (orElse questionFirst (orElse unionFirst checkFirst)) (first-positive (ruleRefusals (sheets .rules)) tt .0 e)
+      ∙ number-goes-on rulesFirst (orElse questionFirst (orElse unionFirst checkFirst))
+      (first-positive (ruleRefusals (sheets .rules)) tt .0 e)
 
-  pub question-stops : numberOf rulesFirst ≡ 0 → numberOf questionFirst ≢ 0 → numberOf (refusalOf partners w checking sheets) ≡ numberOf questionFirst
+  pub question-stops : numberOf rulesFirst ≡ 0 → numberOf questionFirst ≢ 0 → numberOf (refusalOf partners w checking sheets)
+      ≡ numberOf questionFirst
   question-stops e h = rules-pass e ∙ number-stops questionFirst (orElse unionFirst checkFirst) h
 
   pub question-passes : numberOf rulesFirst ≡ 0 → numberOf questionFirst ≡ 0
@@ -89,5 +96,6 @@ module _ (partners : List ℕ) (w : ℕ) (sheets : Sheets) where
   unfolding questionRefusals all
   question-passes e f =
       rules-pass e
-      ∙ number-goes-on questionFirst (orElse unionFirst checkFirst) (first-positive (questionRefusals partners w (sheets .question)) tt .0 f)
+      ∙ number-goes-on questionFirst (orElse unionFirst checkFirst)
+      (first-positive (questionRefusals partners w (sheets .question)) tt .0 f)
       ∙ tested 6 (refuses6 partners w (termCount (sheets .question) 0) (sheets .union)) checkFirst

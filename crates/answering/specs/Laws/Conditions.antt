@@ -35,13 +35,18 @@ none-both (c ∷ cs) ds =
     )
 
 -- A refusal by a list of conditions, and else one more by a test: what it says of the list with the last condition behind it.
-module _ (conditions : List {1} (ℕ × Type 0)) (o : Option ℕ) (refused : (n : ℕ) → (o ≡ some n) ↔ First conditions n) (passed : (o ≡ none) ↔ NoneHolds conditions)
+module _ (conditions : List {1} (ℕ × Type 0)) (o : Option ℕ) (refused : (n : ℕ) → (o ≡ some n) ↔ First conditions n) (passed : (o ≡ none)
+    ↔ NoneHolds conditions)
     (last : ℕ) (b : Bool) (Last : Type 0) (decides : T b ↔ Last) where
   pub with-last : (n : ℕ) → (orElse o (guard b last) ≡ some n) ↔ First (conditions ++ ((last, Last) ∷ [])) n
   unfolding orElse
-  with-last n = (λ e. first-both conditions ((last, Last) ∷ []) n .1 (to o refl b refl e), λ h. from (first-both conditions ((last, Last) ∷ []) n .0 h))
+  with-last n = (
+    λ e. first-both conditions ((last, Last) ∷ []) n .1 (to o refl b refl e),
+    λ h. from (first-both conditions ((last, Last) ∷ []) n .0 h),
+  )
     where
-      to : (p : Option ℕ) → p ≡ o → (c : Bool) → c ≡ b → orElse p (guard c last) ≡ some n → First conditions n ⊎ (NoneHolds conditions × First ((last, Last) ∷ []) n)
+      to : (p : Option ℕ) → p ≡ o → (c : Bool) → c ≡ b → orElse p (guard c last) ≡ some n
+          → First conditions n ⊎ (NoneHolds conditions × First ((last, Last) ∷ []) n)
       to (some m) d c k e = inl (refused n .0 (sym d ∙ e))
       to none d true k e = inr (passed .0 (sym d), inl (some-inj e, decides .0 (rw (← k) tt)))
       to none d false k e = absurd (none≢some e)
@@ -57,9 +62,11 @@ module _ (conditions : List {1} (ℕ × Type 0)) (o : Option ℕ) (refused : (n 
 
   pub none-with-last : (orElse o (guard b last) ≡ none) ↔ NoneHolds (conditions ++ ((last, Last) ∷ []))
   unfolding orElse
-  none-with-last = (λ e. none-both conditions ((last, Last) ∷ []) .1 (to o refl b refl e), λ h. from (none-both conditions ((last, Last) ∷ []) .0 h))
+  none-with-last =
+      (λ e. none-both conditions ((last, Last) ∷ []) .1 (to o refl b refl e), λ h. from (none-both conditions ((last, Last) ∷ []) .0 h))
     where
-      to : (p : Option ℕ) → p ≡ o → (c : Bool) → c ≡ b → orElse p (guard c last) ≡ none → NoneHolds conditions × NoneHolds ((last, Last) ∷ [])
+      to : (p : Option ℕ) → p ≡ o → (c : Bool) → c ≡ b → orElse p (guard c last) ≡ none
+          → NoneHolds conditions × NoneHolds ((last, Last) ∷ [])
       to (some m) d c k e = absurd (none≢some (sym e))
       to none d true k e = absurd (none≢some (sym e))
       to none d false k e = (passed .0 (sym d), (λ h. subst T (sym k) (decides .1 h), tt))

@@ -15,10 +15,12 @@ use Rattle.sheets.specs.AnswerList.{tupleSize, listBytes}
 use Rattle.sheets.specs.Refusals.{numberOf}
 use Rattle.answering.specs.TheSheets.{theRules, theQuestion, theUnion, theFacts, SoundFacts}
 use Rattle.answering.specs.Checking.{AcceptedFor, SoundAndAccepted}
-use Rattle.answering.specs.Drawing.{theAnswers, termsOf, bytesNeeded, Outcome, outcomeBy, Registered, StandsAt, Listed, allSheets, refusalToDraw, allConditions, outcome}
+use Rattle.answering.specs.Drawing.{theAnswers, termsOf, bytesNeeded, Outcome, outcomeBy, Registered, StandsAt, Listed, allSheets}
+use Rattle.answering.specs.Drawing.{refusalToDraw, allConditions, outcome}
 use Rattle.answering.specs.Laws.CheckPromises.{zero-accepts, zero-means as accepted-means}
 use Rattle.answering.specs.Laws.AnswerBytes.{listed-iff, listed-ascending, listed-rest}
-use Rattle.answering.specs.Laws.Drawing.{positive-iff, zero-none, none-iff, zero-sound, fourteen-sound, answers-known, answers-second, same-count}
+use Rattle.answering.specs.Laws.Drawing.{positive-iff, zero-none, none-iff, zero-sound, fourteen-sound, answers-known, answers-second}
+use Rattle.answering.specs.Laws.Drawing.{same-count}
 
 module _ (rules question union facts : List ℕ) (room : ℕ) where
   abbrev drawn : Outcome
@@ -41,17 +43,20 @@ module _ (rules question union facts : List ℕ) (room : ℕ) where
   -- "The first entry whose condition holds decides, for the earlier ones not holding": 0 where none of 1 to 14 holds, and any other number
   -- is that of the first that holds.
   pub number-means : (n : ℕ) → 0 < n → (drawn .number ≡ n) ↔ First (allConditions rules question union facts room) n
-  number-means n positive = Iff·trans (along n) (positive-iff (allSheets rules question union facts room) room (bytesNeeded question union facts) n positive)
+  number-means n positive =
+      Iff·trans (along n) (positive-iff (allSheets rules question union facts room) room (bytesNeeded question union facts) n positive)
 
   pub none-means : (drawn .number ≡ 0) ↔ NoneHolds (allConditions rules question union facts room)
   none-means = Iff·trans (along 0) (none-iff (allSheets rules question union facts room) room (bytesNeeded question union facts))
 
   -- Demand 1: not refused is exactly "a call with sound sheets, an accepted union and a long enough list".
-  pub zero-means : (drawn .number ≡ 0) ↔ (SoundAndAccepted rules question union × SoundFacts facts × (bytesNeeded question union facts ≤ room))
+  pub zero-means : (drawn .number ≡ 0)
+      ↔ (SoundAndAccepted rules question union × SoundFacts facts × (bytesNeeded question union facts ≤ room))
   zero-means = Iff·trans (along 0) (zero-sound rules question union facts room (bytesNeeded question union facts))
 
   -- 14 is the number exactly when all that is wrong is the length of the list.
-  pub fourteen-means : (drawn .number ≡ 14) ↔ (SoundAndAccepted rules question union × SoundFacts facts × (room < bytesNeeded question union facts))
+  pub fourteen-means : (drawn .number ≡ 14)
+      ↔ (SoundAndAccepted rules question union × SoundFacts facts × (room < bytesNeeded question union facts))
   fourteen-means = Iff·trans (along 14) (fourteen-sound rules question union facts room (bytesNeeded question union facts))
 
   -- ---- the promises on count and list
@@ -69,7 +74,9 @@ module _ (rules question union facts : List ℕ) (room : ℕ) where
   module _ (zero : drawn .number ≡ 0) where
     is-drawn : drawn ≡ outcomeBy room (theAnswers union facts) none
     unfolding outcome
-    is-drawn = ap (outcomeBy room (theAnswers union facts)) (zero-none (allSheets rules question union facts room) room (bytesNeeded question union facts) .0 (along 0 .0 zero))
+    is-drawn =
+        ap (outcomeBy room (theAnswers union facts))
+        (zero-none (allSheets rules question union facts room) room (bytesNeeded question union facts) .0 (along 0 .0 zero))
 
     is-accepted : AcceptedFor rules question union
     is-accepted = zero-accepts rules question union .0 (accepted-means rules question union .1 (zero-means .0 zero .0))
@@ -84,10 +91,12 @@ module _ (rules question union facts : List ℕ) (room : ℕ) where
     -- Demand 3: "Where these tuples fit, the list that a call draws has them all and no others": a tuple of registered objects is in the
     -- list exactly when the question finds it in some round from the facts under the rules.
     pub both-readers : (tuple : List ℕ) → Registered tuple
-        → Listed (drawn .list) (drawn .count) (termsOf question) tuple ↔ SecondReader (theRules rules) (theQuestion question) (theFacts facts) tuple
+        → Listed (drawn .list) (drawn .count) (termsOf question) tuple
+        ↔ SecondReader (theRules rules) (theQuestion question) (theFacts facts) tuple
     both-readers tuple registered =
         rw (list-means, count-means)
-        (Iff·trans (listed-iff (theAnswers union facts) (termsOf question) room (answers-known rules question union facts is-accepted) tuple registered)
+        (Iff·trans (listed-iff (theAnswers union facts) (termsOf question) room
+        (answers-known rules question union facts is-accepted) tuple registered)
         (answers-second rules question union facts is-accepted tuple))
 
     -- "ascending and each once", "and its count is their number": of two places the earlier has the lesser tuple
@@ -95,10 +104,12 @@ module _ (rules question union facts : List ℕ) (room : ℕ) where
         → StandsAt (drawn .list) (termsOf question) j t → StandsAt (drawn .list) (termsOf question) k u → Before t u
     ascending j k t u =
         rw (list-means, count-means)
-        (listed-ascending (theAnswers union facts) (termsOf question) room (answers-known rules question union facts is-accepted) (answers-ascending (theFacts facts) (theUnion union)) j k t u)
+        (listed-ascending (theAnswers union facts) (termsOf question) room (answers-known rules question union facts is-accepted)
+        (answers-ascending (theFacts facts) (theUnion union)) j k t u)
 
     -- "the bytes after them zero"
-    pub rest-zero : drop (tupleSize (termsOf question) * drawn .count) (drawn .list) ≡ replicate (room - tupleSize (termsOf question) * drawn .count) 0
+    pub rest-zero : drop (tupleSize (termsOf question) * drawn .count) (drawn .list)
+        ≡ replicate (room - tupleSize (termsOf question) * drawn .count) 0
     rest-zero =
         rw (list-means, count-means)
         (listed-rest (theAnswers union facts) (termsOf question) room (answers-known rules question union facts is-accepted))
@@ -107,7 +118,8 @@ module _ (rules question union facts : List ℕ) (room : ℕ) where
 
   -- the first reader's answers are the second's, ascending, each once
   module _ (accepted : AcceptedFor rules question union) where
-    pub answers-are-theirs : (tuple : List ℕ) → (tuple ∈ theAnswers union facts) ↔ SecondReader (theRules rules) (theQuestion question) (theFacts facts) tuple
+    pub answers-are-theirs : (tuple : List ℕ) → (tuple ∈ theAnswers union facts)
+        ↔ SecondReader (theRules rules) (theQuestion question) (theFacts facts) tuple
     answers-are-theirs = answers-second rules question union facts accepted
 
     -- so that their number, in 14 and in the count, is that of the tuples that the second reader finds

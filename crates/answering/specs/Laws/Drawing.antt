@@ -25,18 +25,19 @@ use Rattle.sheets.specs.Partners.{partners01}
 use Rattle.sheets.specs.Refusals.{Sheets, checking, drawing, onlyFacts, refusals, testsFor, refusalOf, numberOf, factRefusals}
 use Rattle.sheets.specs.Laws.Tests.{ltb-tells, lt-or-le}
 use Rattle.sheets.specs.Laws.OneList.{number-zero, checking-first, facts-only, drawn, checked-accepted, refused-iff, passed-iff}
-use Rattle.evaluation.specs.Laws.Registered.{registered}
+use Rattle.sheets.specs.Laws.ObjectRange.{facts-in-range, constants-in-range}
+use Rattle.answer_search.specs.Laws.InRange.{tuples-in-range}
 use Rattle.answering.specs.TheSheets.{theRules, theQuestion, theUnion, theFacts, theRefusal, NotRefused, theConditions, SoundFacts}
 use Rattle.answering.specs.Checking.{sheetsOf, AcceptedFor, SoundAndAccepted}
 use Rattle.answering.specs.Laws.CheckPromises.{zero-accepts, zero-means}
 use Rattle.answering.specs.Laws.Checking.{numbered}
 use Rattle.answering.specs.Laws.Conditions.{with-last, none-with-last}
-use Rattle.sheets.specs.Laws.ObjectRange.{facts-in-range, constants-in-range}
 
 -- ---- one more refusal at the end of the list
 
 -- a number other than 0 behind a list whose 0 says that none applies
-zero-behind : (o : Option ℕ) (b : Bool) (n : ℕ) → 0 < n → ((numberOf o ≡ 0) ↔ (o ≡ none)) → (numberOf (orElse o (guard b n)) ≡ 0) ↔ (orElse o (guard b n) ≡ none)
+zero-behind : (o : Option ℕ) (b : Bool) (n : ℕ) → 0 < n → ((numberOf o ≡ 0) ↔ (o ≡ none)) → (numberOf (orElse o (guard b n)) ≡ 0)
+    ↔ (orElse o (guard b n) ≡ none)
 unfolding numberOf orElse
 zero-behind (some m) b n l h = h
 zero-behind none true n l h = (λ e. absurd (omega arith), λ e. absurd (none≢some (sym e)))
@@ -73,7 +74,8 @@ module _ (sheets : Sheets) (room needed : ℕ) where
   pub positive-iff : (n : ℕ) → 0 < n → (numberOf refusal ≡ n) ↔ First (theConditions drawing sheets ++ ((14, room < needed) ∷ [])) n
   positive-iff n l =
       Iff·trans (numbered refusal n l)
-      (with-last (theConditions drawing sheets) (theRefusal drawing sheets) (refused-iff partners01 sheetWidth sheets drawing) (passed-iff partners01 sheetWidth sheets drawing)
+      (with-last (theConditions drawing sheets) (theRefusal drawing sheets) (refused-iff partners01 sheetWidth sheets drawing)
+      (passed-iff partners01 sheetWidth sheets drawing)
       14 (ltb room needed) (room < needed) (ltb-tells room needed .pass) n)
 
   pub zero-none : (numberOf refusal ≡ 0) ↔ (refusal ≡ none)
@@ -82,13 +84,15 @@ module _ (sheets : Sheets) (room needed : ℕ) where
   pub none-iff : (numberOf refusal ≡ 0) ↔ NoneHolds (theConditions drawing sheets ++ ((14, room < needed) ∷ []))
   none-iff =
       Iff·trans zero-none
-      (none-with-last (theConditions drawing sheets) (theRefusal drawing sheets) (refused-iff partners01 sheetWidth sheets drawing) (passed-iff partners01 sheetWidth sheets drawing)
+      (none-with-last (theConditions drawing sheets) (theRefusal drawing sheets) (refused-iff partners01 sheetWidth sheets drawing)
+      (passed-iff partners01 sheetWidth sheets drawing)
       14 (ltb room needed) (room < needed) (ltb-tells room needed .pass))
 
   pub fourteen-iff : (numberOf refusal ≡ 14) ↔ (NotRefused drawing sheets × (room < needed))
   unfolding refusalOf refusals testsFor all
   fourteen-iff =
-      let last = only-last (theRefusal drawing sheets) (ltb room needed) 14 (no-such 14 (testsFor partners01 sheetWidth drawing sheets (refusals partners01 sheetWidth)) tt) in
+      let last = only-last (theRefusal drawing sheets) (ltb room needed) 14
+      (no-such 14 (testsFor partners01 sheetWidth drawing sheets (refusals partners01 sheetWidth)) tt) in
       let c = ltb-tells room needed .pass in
       Iff·trans (numbered refusal 14 (omega arith)) (Iff·trans last (λ k. (k .0, c .0 (k .1)), λ k. (k .0, c .1 (k .1))))
 
@@ -102,7 +106,8 @@ module _ (rules question union facts : List ℕ) where
   pub checked-same : theRefusal checking four ≡ theRefusal checking (sheetsOf rules question union)
   checked-same = checking-first partners01 sheetWidth four ∙ sym (checking-first partners01 sheetWidth (sheetsOf rules question union))
 
-  facts-same : theRefusal onlyFacts (record { rules = []; question = []; union = []; facts = facts }) ≡ firstRefusal (factRefusals sheetWidth facts)
+  facts-same : theRefusal onlyFacts (record { rules = []; question = []; union = []; facts = facts })
+      ≡ firstRefusal (factRefusals sheetWidth facts)
   facts-same = facts-only partners01 sheetWidth (record { rules = []; question = []; union = []; facts = facts })
 
   -- drawing's refusals pass where checking's do and the facts are sound
@@ -119,7 +124,8 @@ module _ (rules question union facts : List ℕ) where
       let s = Iff·trans (zero-accepts rules question union .1, zero-accepts rules question union .0) (zero-means rules question union) in
       Iff·trans drawing-sound (λ k. (s .0 (k .0), k .1), λ k. (s .1 (k .0), k .1))
 
-  pub zero-sound : (room needed : ℕ) → (numberOf (refusal four room needed) ≡ 0) ↔ (SoundAndAccepted rules question union × SoundFacts facts × (needed ≤ room))
+  pub zero-sound : (room needed : ℕ) → (numberOf (refusal four room needed) ≡ 0)
+      ↔ (SoundAndAccepted rules question union × SoundFacts facts × (needed ≤ room))
   zero-sound room needed =
       let b = both-none (theRefusal drawing four) (ltb room needed) 14 in
       let c = ltb-tells room needed .pass in
@@ -131,9 +137,14 @@ module _ (rules question union facts : List ℕ) where
       not-less : ¬ T (ltb room needed) → needed ≤ room
       not-less h = elim (lt-or-le room needed) [ inl l ↦ absurd (h (ltb-tells room needed .pass .1 l)) | inr l ↦ l ]
 
-  pub fourteen-sound : (room needed : ℕ) → (numberOf (refusal four room needed) ≡ 14) ↔ (SoundAndAccepted rules question union × SoundFacts facts × (room < needed))
+  pub fourteen-sound : (room needed : ℕ) → (numberOf (refusal four room needed) ≡ 14)
+      ↔ (SoundAndAccepted rules question union × SoundFacts facts × (room < needed))
   fourteen-sound room needed =
-      Iff·trans (fourteen-iff four room needed) (λ k. let d = all-sound .0 (k .0) in (d .0, d .1, k .1), λ k. (all-sound .1 (k .0, k .1), k .2))
+      Iff·trans (fourteen-iff four room needed) (
+        λ k. let d = all-sound .0 (k .0) in
+            (d .0, d .1, k .1),
+        λ k. (all-sound .1 (k .0, k .1), k .2),
+      )
 
   module _ (accepted : AcceptedFor rules question union) where
     -- every answer has objects that 16 bits hold, and as many as the question has answer terms
@@ -146,12 +157,13 @@ module _ (rules question union facts : List ℕ) where
         let sound = checked-accepted partners01 sheetWidth (sheetsOf rules question union) accepted .0 in
         let drawn-by = inserted-mem Before insertTuple insertTuple-inserts (flatMap find (theUnion union)) m in
         let (n, k, f) = flatMap-found find (theUnion union) drawn-by in (
-          registered F (theUnion union) (facts-in-range partners01 facts) (constants-in-range partners01 union) .objects t drawn-by,
+          tuples-in-range F (theUnion union) (facts-in-range partners01 facts) (constants-in-range partners01 union) .objects t drawn-by,
           found-length F (n .query) t f ∙ sound n k .arity-is,
         )
 
     -- the answers are the second reader's
-    pub answers-second : (t : List ℕ) → (t ∈ answersOf (theFacts facts) (theUnion union)) ↔ SecondReader (theRules rules) (theQuestion question) (theFacts facts) t
+    pub answers-second : (t : List ℕ) → (t ∈ answersOf (theFacts facts) (theUnion union))
+        ↔ SecondReader (theRules rules) (theQuestion question) (theFacts facts) t
     answers-second t =
         let ok = checked-accepted partners01 sheetWidth (sheetsOf rules question union) accepted in
         Iff·trans (answers-iff (theFacts facts) (theUnion union) (λ n k. ok .0 n k .safe) t)

@@ -5,5 +5,5 @@ use Rattle.read_question.proofs.read_query.Tie as tie
 pub read-query-spec : {M : Type 1} → statement M
 read-query-spec =
     tie.close
-    (tie.spec (λ c κs. search laws) (λ c κs. search laws) (λ c. search laws) (λ c κs. search laws) (λ c. search laws)
-    (λ c. search laws) (λ c. search laws) (λ c κs. search laws) (λ c. search laws))
+    (tie.spec (λ c κs. search laws) (λ c κs. search laws) (λ c. search laws) (λ c κs. search laws) (λ c. search laws) (λ c. search laws)
+    (λ c. search laws) (λ c κs. search laws) (λ c. search laws))

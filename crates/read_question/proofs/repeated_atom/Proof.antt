@@ -1,15 +1,12 @@
 use mathlib.Core.Path.{_≡_}
-use mathlib.Core.List.{map}
 use Prim.Native.Nat.{_≤_, _-_}
-use lib.ListN.{take}
-use Rattle.sheets.specs.Tests.{repeats}
-use Rattle.read_question.proofs.QuestionTests.{laws, repeatsFrom}
+use Rattle.theory.specs.Laws.Scans.{someFrom}
+use Rattle.read_question.proofs.QuestionTests.{laws, againAt}
 use Rattle.read_question.proofs.repeated_atom.Statement.{statement}
 use Rattle.read_question.proofs.repeated_atom.Tie as tie
-use Rattle.words.specs.Words.{wordAtom}
 
 abbrev Inv-loop : tie.InvT-loop
-Inv-loop atoms n i₀ i = (i ≤ n) × (repeatsFrom n atoms i ≡ repeats (map wordAtom (take n atoms)))
+Inv-loop atoms n i₀ i = (i ≤ n) × (someFrom (againAt atoms n) i n ≡ someFrom (againAt atoms n) 0 n)
 
 abbrev μ-loop : tie.MeasureT-loop
 μ-loop atoms n i₀ i = n - i

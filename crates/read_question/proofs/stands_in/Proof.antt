@@ -1,16 +1,12 @@
 use mathlib.Core.Path.{_≡_}
-use mathlib.Core.List.{map}
 use Prim.Native.Nat.{_≤_, _-_}
-use lib.ListN.{take}
-use Rattle.theory.specs.Lists.{any}
-use Rattle.theory.specs.Syntax.{places, sameTerm}
-use Rattle.words.specs.Words.{wordTerm, wordAtom}
-use Rattle.read_question.proofs.QuestionTests.{laws, inAtoms}
+use Rattle.theory.specs.Laws.Scans.{someFrom}
+use Rattle.read_question.proofs.QuestionTests.{laws, standsAt}
 use Rattle.read_question.proofs.stands_in.Statement.{statement}
 use Rattle.read_question.proofs.stands_in.Tie as tie
 
 abbrev Inv-loop : tie.InvT-loop
-Inv-loop n t atoms i₀ i = (i ≤ n) × (inAtoms t n atoms i ≡ any (sameTerm (wordTerm t)) (places (map wordAtom (take n atoms))))
+Inv-loop n t atoms i₀ i = (i ≤ n) × (someFrom (standsAt t atoms) i n ≡ someFrom (standsAt t atoms) 0 n)
 
 abbrev μ-loop : tie.MeasureT-loop
 μ-loop n t atoms i₀ i = n - i

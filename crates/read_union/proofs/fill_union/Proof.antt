@@ -1,8 +1,8 @@
 use mathlib.Core.Path.{_≡_}
 use Prim.Native.Nat.{_≤_, _-_}
 use lib.ListN.{length}
-use Rattle.sheets.specs.Format.{memberStart}
 use Rattle.words.specs.Limits.{sheetWidth}
+use Rattle.sheets.specs.Format.{memberStart}
 use Rattle.read_union.proofs.RowLaws.{RowsBelow, laws}
 use Rattle.read_union.proofs.fill_union.Statement.{statement}
 use Rattle.read_union.proofs.fill_union.Tie as tie

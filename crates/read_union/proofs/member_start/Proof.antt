@@ -1,11 +1,11 @@
 -- The loop's invariant: `at` is where member j begins.
 use mathlib.Core.Path.{_≡_}
 use Prim.Native.Nat.{_≤_, _-_}
+use Rattle.words.specs.Limits.{sheetWidth}
 use Rattle.sheets.specs.Format.{memberStart}
 use Rattle.read_union.proofs.MemberLaws.{laws}
 use Rattle.read_union.proofs.member_start.Statement.{statement}
 use Rattle.read_union.proofs.member_start.Tie as tie
-use Rattle.words.specs.Limits.{sheetWidth}
 
 abbrev Inv-loop : tie.InvT-loop
 Inv-loop s m at₀ j₀ at j = (j ≤ m) × (at ≡ memberStart sheetWidth s j)

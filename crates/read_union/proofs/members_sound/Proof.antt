@@ -2,11 +2,11 @@
 use mathlib.Core.Path.{_≡_}
 use Prim.Native.Nat.{_≤_, _-_}
 use lib.ListN.{length}
+use Rattle.words.specs.Limits.{sheetWidth}
 use Rattle.sheets.specs.Format.{memberStart}
 use Rattle.read_union.proofs.UnionLaws.{laws, SoundBelow}
 use Rattle.read_union.proofs.members_sound.Statement.{statement}
 use Rattle.read_union.proofs.members_sound.Tie as tie
-use Rattle.words.specs.Limits.{sheetWidth}
 
 abbrev Inv-loop : tie.InvT-loop
 Inv-loop s partners arity count at₀ seen₀ at seen =

@@ -6,5 +6,5 @@ use Rattle.report.proofs.put_report.Tie as tie
 pub put-report-spec : {M : Type 1} → statement M
 put-report-spec =
     tie.close
-    (tie.spec (λ c. search laws) (λ c κs. search laws) (λ c. search laws) (λ c. search laws) (λ c. search laws)
-    (λ c κs. search laws) (λ c κs. (search laws, search laws)) (λ c. search laws) (λ c. search laws))
+    (tie.spec (λ c. search laws) (λ c κs. search laws) (λ c. search laws) (λ c. search laws) (λ c. search laws) (λ c κs. search laws)
+    (λ c κs. (search laws, search laws)) (λ c. search laws) (λ c. search laws))

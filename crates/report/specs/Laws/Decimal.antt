@@ -8,8 +8,8 @@ use mathlib.Core.List.{[], _∷_, _++_}
 use lib.Dec.{ltb}
 use lib.ListN.{length, length-append}
 use borrow.Author.Tests.{lt-ltb, le-ltb}
-use Rattle.io.specs.Digits.{glyph, digits, Fewest}
 use Rattle.report.specs.Report.{decimalIn, decimalOf}
+use Rattle.io.specs.Digits.{glyph, digits, Fewest}
 
 glyph-digit : (d : ℕ) → d < 10 → glyph d ≡ 48 + d
 glyph-digit d h = ap (λ (b : Bool). cond b (48 + d) (87 + d)) (lt-ltb d 10 h)

@@ -32,7 +32,8 @@ use Rattle.report.specs.Text.{listRoom, drawn, textFor}
 abbrev InRange : List ℕ → Type 0
 InRange tuple = (o : ℕ) → o ∈ tuple → o < objectBound
 
-object-again : (before after : List ℕ) (o : ℕ) → o < objectBound → objectAt (before ++ (o / 256 % 256 ∷ o % 256 ∷ after)) (length before) ≡ o
+object-again : (before after : List ℕ) (o : ℕ) → o < objectBound → objectAt (before ++ (o / 256 % 256 ∷ o % 256 ∷ after)) (length before)
+    ≡ o
 object-again before after o h =
     let high : getD (before ++ (o / 256 % 256 ∷ o % 256 ∷ after)) (length before) 0 ≡ o / 256 % 256
     = getD-at before (o / 256 % 256) (o % 256 ∷ after) 0 (length before) refl in

@@ -11,7 +11,8 @@ use Rattle.words.specs.Records.{factKind, factZeros, factSecond}
 use Rattle.sheets.specs.Format.{factRecords}
 use Rattle.sheets.specs.Tests.{refuses12, factSound, refuses13}
 use Rattle.sheets.specs.Conditions.{Meets12, FactBitSet, Meets13}
-use Rattle.sheets.specs.Laws.Tests.{sum-iff, Tells, itself, by-fail, not-tells, or-tells, and-tells, pick-tells, eqb-tells, ltb-tells, all-tells}
+use Rattle.sheets.specs.Laws.Tests.{sum-iff, Tells, itself, by-fail, not-tells, or-tells, and-tells, pick-tells, eqb-tells, ltb-tells}
+use Rattle.sheets.specs.Laws.Tests.{all-tells}
 
 pub refuses12-iff : (w : ℕ) (s : List ℕ) → T (refuses12 w s) ↔ Meets12 w s
 unfolding refuses12
@@ -23,7 +24,8 @@ refuses12-on-sheets s = refuses12-iff sheetWidth s
 factSound-tells : (w x : ℕ) → Tells (factSound w x) (¬ FactBitSet w x) (FactBitSet w x)
 unfolding factSound
 factSound-tells w x =
-    let parts = and-tells (eqb-tells (factZeros w x) 0) (pick-tells (eqb-tells (factKind w x) 0) (eqb-tells (factSecond w x) 0) (itself true)) in
+    let parts = and-tells (eqb-tells (factZeros w x) 0)
+    (pick-tells (eqb-tells (factKind w x) 0) (eqb-tells (factSecond w x) 0) (itself true)) in
     by-fail (factSound w x)
     (Iff·trans (parts .fail)
     (sum-iff Iff·rfl (elim [ inl f ↦ f | inr f ↦ absurd (f .1) ], inl)))

@@ -13,13 +13,14 @@ use Rattle.words.specs.Limits.{sheetWidth, objectBound}
 use Rattle.sheets.specs.Format.{factRecords, factsOf, answerRecords, queryAt, memberCount, memberAt, unionOf}
 use Rattle.sheets.specs.Partners.{atomAsRead, queryAsRead, memberAsRead}
 use Rattle.sheets.specs.Reading.{factsAsRead, unionAsRead}
-use Rattle.sheets.specs.Laws.Tests.{record-at}
+use Rattle.sheets.specs.Laws.Tests.{mem-numbered}
 use Rattle.sheets.specs.Laws.PartnerLaws.{args-asRead}
 
 -- ---- facts
 
 one-of : (b : Bool) (A o x y : ℕ) → o ∈ args (pick b (concept A x) (role A x y)) → x < objectBound → y < objectBound → o < objectBound
-one-of true A o x y m h k = elim (List·Memᴰ·cases-cons m) [ inl e ↦ subst (λ n. n < objectBound) (sym e) h | inr n ↦ absurd (List·Memᴰ·not-nil n) ]
+one-of true A o x y m h k =
+    elim (List·Memᴰ·cases-cons m) [ inl e ↦ subst (λ n. n < objectBound) (sym e) h | inr n ↦ absurd (List·Memᴰ·not-nil n) ]
 one-of false A o x y m h k =
     elim (List·Memᴰ·cases-cons m) [
       | inl e ↦ subst (λ n. n < objectBound) (sym e) h
@@ -49,10 +50,11 @@ query-in-range p s at c m =
     let (x, l, e) = Memᴰ·of-map (termOf sheetWidth) (answerRecords sheetWidth s at) m in
     term-in-range (eqb (x / 2 ^ 16) 0) (x % 2 ^ 16) c (omega arith) e
 
-pub constants-in-range : (p s : List ℕ) (m : Member) → m ∈ unionAsRead p sheetWidth s → (c : ℕ) → const c ∈ m .query .answers → c < objectBound
+pub constants-in-range : (p s : List ℕ) (m : Member) → m ∈ unionAsRead p sheetWidth s → (c : ℕ) → const c ∈ m .query .answers
+    → c < objectBound
 unfolding unionAsRead unionOf memberAsRead memberAt
 constants-in-range p s m k c n =
     let (m′, k′, e) = Memᴰ·of-map (memberAsRead p) (unionOf sheetWidth s) k in
-    let (j, l, e′) = record-at (memberAt sheetWidth s) (memberCount s) m′ .0 k′ in
+    let (j, l, e′) = mem-numbered (memberAt sheetWidth s) (memberCount s) m′ .0 k′ in
     let d : memberAsRead p (memberAt sheetWidth s j) ≡ m = ap (memberAsRead p) e′ ∙ e in
     query-in-range p s _ c (subst (λ (x : Member). const c ∈ x .query .answers) (sym d) n)

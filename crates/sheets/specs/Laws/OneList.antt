@@ -17,7 +17,9 @@ use Rattle.theory.specs.Laws.Refusals.{Decides, first-refusal-iff, no-refusal-i
 use Rattle.theory.specs.Laws.Union.{check-accepts}
 use Rattle.theory.specs.Laws.UnionTests.{refuses7-iff, refuses8-iff, refuses9-iff, refuses10-iff, refuses11-iff}
 use Rattle.sheets.specs.Format.{termCount}
-use Rattle.sheets.specs.Refusals.{Sheets, Which, Refusal, within, onlyRules, onlyQuestion, onlyFacts, questionAndUnion, checking, drawing, readRules, readQuestion, readUnion, refusals, testsFor, conditionsFor, refusalOf, numberOf, ruleRefusals, questionRefusals, factRefusals}
+use Rattle.sheets.specs.Refusals.{Sheets, Which, Refusal, within, onlyRules, onlyQuestion, onlyFacts, questionAndUnion, checking}
+use Rattle.sheets.specs.Refusals.{drawing, readRules, readQuestion, readUnion, refusals, testsFor, conditionsFor, refusalOf, numberOf}
+use Rattle.sheets.specs.Refusals.{ruleRefusals, questionRefusals, factRefusals}
 use Rattle.sheets.specs.Tests.{refuses6}
 use Rattle.sheets.specs.Laws.Tests.{ltb-tells}
 use Rattle.sheets.specs.Laws.RuleRefusals.{refuses1-iff, refuses2-iff}
@@ -32,7 +34,8 @@ first-append : (es fs : List (ℕ × Bool)) → firstRefusal (es ++ fs) ≡ orEl
 unfolding firstRefusal orElse
 first-append [] fs = refl
 first-append (e ∷ es) fs =
-    elim (e .1) as (λ b. pick b (some (e .0)) (firstRefusal (es ++ fs)) ≡ orElse (pick b (some (e .0)) (firstRefusal es)) (firstRefusal fs)) [
+    elim (e .1) as (λ b. pick b (some (e .0)) (firstRefusal (es ++ fs))
+    ≡ orElse (pick b (some (e .0)) (firstRefusal es)) (firstRefusal fs)) [
       | true ↦ refl
       | false ↦ first-append es fs
     ]
@@ -51,7 +54,8 @@ one-none n true = (λ e. absurd (none≢some (sym e)), λ f. absurd (f tt))
 one-none n false = (λ e t. t, λ f. refl)
 
 -- no test has number 0, so that 0 says that none passes
-pub first-positive : (tests : List (ℕ × Bool)) → T (all (λ e. ltb 0 (e .0)) tests) → (numberOf (firstRefusal tests) ≡ 0) ↔ (firstRefusal tests ≡ none)
+pub first-positive : (tests : List (ℕ × Bool)) → T (all (λ e. ltb 0 (e .0)) tests) → (numberOf (firstRefusal tests) ≡ 0)
+    ↔ (firstRefusal tests ≡ none)
 unfolding all firstRefusal numberOf
 first-positive [] h = (λ e. refl, λ e. refl)
 first-positive (e ∷ es) h =
@@ -100,29 +104,38 @@ module _ (partners : List ℕ) (w : ℕ) (sheets : Sheets) where
 
   -- "Checking a union uses 1 to 11, drawing answers all."
   pub checking-tests : testsFor partners w checking sheets (refusals partners w)
-      ≡ ruleRefusals (sheets .rules) ++ (questionRefusals partners w (sheets .question) ++ (unionRefusals ++ unionTests rules question union))
+      ≡ ruleRefusals (sheets .rules)
+      ++ (questionRefusals partners w (sheets .question) ++ (unionRefusals ++ unionTests rules question union))
   unfolding testsFor refusals ruleRefusals questionRefusals
   checking-tests = refl
 
-  pub drawing-tests : testsFor partners w drawing sheets (refusals partners w) ≡ testsFor partners w checking sheets (refusals partners w) ++ factRefusals w (sheets .facts)
+  pub drawing-tests : testsFor partners w drawing sheets (refusals partners w) ≡ testsFor partners w checking sheets (refusals partners w)
+      ++ factRefusals w (sheets .facts)
   unfolding testsFor refusals factRefusals
   drawing-tests = refl
 
   -- checking reads rules, question and union, then checks
   pub checking-first : refusalOf partners w checking sheets
-      ≡ orElse (firstRefusal (ruleRefusals (sheets .rules))) (orElse (firstRefusal (questionRefusals partners w (sheets .question))) (orElse (firstRefusal unionRefusals) (check rules question union)))
+      ≡ orElse (firstRefusal (ruleRefusals (sheets .rules)))
+      (orElse (firstRefusal (questionRefusals partners w (sheets .question)))
+      (orElse (firstRefusal unionRefusals) (check rules question union)))
   unfolding refusalOf check
   checking-first =
       ap firstRefusal checking-tests
-      ∙ first-append (ruleRefusals (sheets .rules)) (questionRefusals partners w (sheets .question) ++ (unionRefusals ++ unionTests rules question union))
+      ∙ first-append (ruleRefusals (sheets .rules))
+      (questionRefusals partners w (sheets .question) ++ (unionRefusals ++ unionTests rules question union))
       ∙ ap (orElse (firstRefusal (ruleRefusals (sheets .rules))))
       (first-append (questionRefusals partners w (sheets .question)) (unionRefusals ++ unionTests rules question union)
-      ∙ ap (orElse (firstRefusal (questionRefusals partners w (sheets .question)))) (first-append unionRefusals (unionTests rules question union)))
+      ∙ ap (orElse (firstRefusal (questionRefusals partners w (sheets .question))))
+      (first-append unionRefusals (unionTests rules question union)))
 
   -- drawing checks, then reads the facts
-  pub drawing-first : refusalOf partners w drawing sheets ≡ orElse (refusalOf partners w checking sheets) (firstRefusal (factRefusals w (sheets .facts)))
+  pub drawing-first : refusalOf partners w drawing sheets
+      ≡ orElse (refusalOf partners w checking sheets) (firstRefusal (factRefusals w (sheets .facts)))
   unfolding refusalOf
-  drawing-first = ap firstRefusal drawing-tests ∙ first-append (testsFor partners w checking sheets (refusals partners w)) (factRefusals w (sheets .facts))
+  drawing-first =
+      ap firstRefusal drawing-tests ∙ first-append (testsFor partners w checking sheets (refusals partners w))
+      (factRefusals w (sheets .facts))
 
   -- a call that takes fewer sheets meets those sheets' refusals
   pub rules-only : refusalOf partners w onlyRules sheets ≡ firstRefusal (ruleRefusals (sheets .rules))
@@ -137,7 +150,8 @@ module _ (partners : List ℕ) (w : ℕ) (sheets : Sheets) where
   unfolding refusalOf factRefusals
   facts-only = refl
 
-  pub question-and-union : refusalOf partners w questionAndUnion sheets ≡ orElse (firstRefusal (questionRefusals partners w (sheets .question))) (firstRefusal unionRefusals)
+  pub question-and-union : refusalOf partners w questionAndUnion sheets
+      ≡ orElse (firstRefusal (questionRefusals partners w (sheets .question))) (firstRefusal unionRefusals)
   unfolding refusalOf questionRefusals
   question-and-union = first-append (questionRefusals partners w (sheets .question)) unionRefusals
 
@@ -148,14 +162,16 @@ module _ (partners : List ℕ) (w : ℕ) (sheets : Sheets) where
   positive [] = true
   positive (e ∷ es) = ltb 0 (e .number) && positive es
 
-  tests-positive : (takes : Which) (es : List {1} Refusal) → T (positive es) → T (all (λ e. ltb 0 (e .0)) (testsFor partners w takes sheets es))
+  tests-positive : (takes : Which) (es : List {1} Refusal) → T (positive es)
+      → T (all (λ e. ltb 0 (e .0)) (testsFor partners w takes sheets es))
   unfolding all testsFor positive
   tests-positive takes [] h = tt
   tests-positive takes (e ∷ es) h =
       let parts = T-and (ltb 0 (e .number)) (positive es) .0 h in
       let rest = tests-positive takes es (parts .1) in
       elim (within (e .reads) takes) as
-      (λ b. T (all (λ e. ltb 0 (e .0)) (pick b ((e .number, e .test sheets) ∷ testsFor partners w takes sheets es) (testsFor partners w takes sheets es)))) [
+      (λ b. T (all (λ e. ltb 0 (e .0))
+      (pick b ((e .number, e .test sheets) ∷ testsFor partners w takes sheets es) (testsFor partners w takes sheets es)))) [
         | true ↦ T-and (ltb 0 (e .number)) (all (λ e. ltb 0 (e .0)) (testsFor partners w takes sheets es)) .1 (parts .0, rest)
         | false ↦ rest
       ]
@@ -163,7 +179,8 @@ module _ (partners : List ℕ) (w : ℕ) (sheets : Sheets) where
   -- "A call that isn't refused returns number 0", and one that is refused does not
   pub number-zero : (takes : Which) → (numberOf (refusalOf partners w takes sheets) ≡ 0) ↔ (refusalOf partners w takes sheets ≡ none)
   unfolding refusalOf refusals positive
-  number-zero takes = first-positive (testsFor partners w takes sheets (refusals partners w)) (tests-positive takes (refusals partners w) tt)
+  number-zero takes =
+      first-positive (testsFor partners w takes sheets (refusals partners w)) (tests-positive takes (refusals partners w) tt)
 
   pub checked : (refusalOf partners w checking sheets ≡ none)
       ↔ ((firstRefusal (ruleRefusals (sheets .rules)) ≡ none) × (firstRefusal (questionRefusals partners w (sheets .question)) ≡ none)
@@ -178,17 +195,22 @@ module _ (partners : List ℕ) (w : ℕ) (sheets : Sheets) where
         λ e. let r = orElse-none R (orElse Q (orElse U C)) .0 e in
             let q = orElse-none Q (orElse U C) .0 (r .1) in
             let u = orElse-none U C .0 (q .1) in (r .0, q .0, six .0 (u .0), u .1),
-        λ c. orElse-none R (orElse Q (orElse U C)) .1 (c .0, orElse-none Q (orElse U C) .1 (c .1, orElse-none U C .1 (six .1 (c .2), c .3))),
+        λ c. orElse-none R (orElse Q (orElse U C)) .1
+            (c .0, orElse-none Q (orElse U C) .1 (c .1, orElse-none U C .1 (six .1 (c .2), c .3))),
       )
 
-  pub drawn : (refusalOf partners w drawing sheets ≡ none) ↔ ((refusalOf partners w checking sheets ≡ none) × (firstRefusal (factRefusals w (sheets .facts)) ≡ none))
-  drawn = Iff·trans (none-along drawing-first) (orElse-none (refusalOf partners w checking sheets) (firstRefusal (factRefusals w (sheets .facts))))
+  pub drawn : (refusalOf partners w drawing sheets ≡ none)
+      ↔ ((refusalOf partners w checking sheets ≡ none) × (firstRefusal (factRefusals w (sheets .facts)) ≡ none))
+  drawn =
+      Iff·trans (none-along drawing-first)
+      (orElse-none (refusalOf partners w checking sheets) (firstRefusal (factRefusals w (sheets .facts))))
 
   -- what the agreement of both readers asks
   pub checked-accepted : refusalOf partners w checking sheets ≡ none → SoundUnion question union × Accepted rules question union
   checked-accepted e =
       let c = checked .0 e in
-      let not6 = subst (λ arity. ¬ T (refuses6 partners w arity (sheets .union))) (sym (question-arity partners w (sheets .question))) (c .2) in
+      let not6 = subst (λ arity. ¬ T (refuses6 partners w arity (sheets .union))) (sym (question-arity partners w (sheets .question)))
+      (c .2) in
       (sound-union partners w (sheets .union) question not6, check-accepts rules question union .0 (c .3))
 
   -- ---- 01's list: "The first entry whose condition holds decides, for the earlier ones not holding."
@@ -235,7 +257,8 @@ module _ (partners : List ℕ) (w : ℕ) (sheets : Sheets) where
     ),
   )
 
-  decided : (takes : Which) (es : List {1} Refusal) → EachDecides es → Decides (testsFor partners w takes sheets es) (conditionsFor partners w takes sheets es)
+  decided : (takes : Which) (es : List {1} Refusal) → EachDecides es
+      → Decides (testsFor partners w takes sheets es) (conditionsFor partners w takes sheets es)
   unfolding testsFor conditionsFor
   decided takes [] h = tt
   decided takes (e ∷ es) h =
@@ -254,8 +277,11 @@ module _ (partners : List ℕ) (w : ℕ) (sheets : Sheets) where
 
     pub refused-iff : (n : ℕ) → (refusalOf partners w takes sheets ≡ some n) ↔ First conditionsOf n
     unfolding refusalOf
-    refused-iff n = first-refusal-iff (testsFor partners w takes sheets (refusals partners w)) conditionsOf (decided takes (refusals partners w) every-one) n
+    refused-iff n =
+        first-refusal-iff (testsFor partners w takes sheets (refusals partners w)) conditionsOf
+        (decided takes (refusals partners w) every-one) n
 
     pub passed-iff : (refusalOf partners w takes sheets ≡ none) ↔ NoneHolds conditionsOf
     unfolding refusalOf
-    passed-iff = no-refusal-iff (testsFor partners w takes sheets (refusals partners w)) conditionsOf (decided takes (refusals partners w) every-one)
+    passed-iff =
+        no-refusal-iff (testsFor partners w takes sheets (refusals partners w)) conditionsOf (decided takes (refusals partners w) every-one)

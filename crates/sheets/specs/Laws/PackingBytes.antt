@@ -2,7 +2,8 @@
 -- what is read from them.
 use mathlib.Core.Path.{_≡_, refl, sym, ap, ap₂, _∙_, subst}
 use Prim.Native.Nat.{ℕ, zero, suc, _+_, _*_, _/_, _%_, _^_, _≤_, _<_}
-use native.Mathlib.Nat.{zero-add, suc-add, add-suc, add-zero, add-assoc, mul-zero, mul-suc, pow-suc, not-suc-le-zero, le-of-suc-le-suc, div-lt-iff-lt-mul}
+use native.Mathlib.Nat.{zero-add, suc-add, add-suc, add-zero, add-assoc, mul-zero, mul-suc, pow-suc, not-suc-le-zero, le-of-suc-le-suc}
+use native.Mathlib.Nat.{div-lt-iff-lt-mul}
 use native.Mathlib.Numerals.{add-one}
 use native.Mathlib.Omega.{arith}
 use mathlib.Core.List.{List, [], _∷_, _++_, map, append-nil, append-assoc, List·Memᴰ·tail}
@@ -96,8 +97,10 @@ unfolding bytesOf numberAt
 number-read zero n at s l h = omega arith
 number-read (suc size) n at s l h =
     let m : n / 256 < 256 ^ size = div-lt-iff-lt-mul {k = 256} (omega arith) .1 (rw (← pow-suc 256 size) l) in
-    let front : numberAt s at size ≡ n / 256 = number-read size (n / 256) at s m (stands-first (bytesOf size (n / 256)) (n % 256 ∷ []) at s h) in
-    let last : Stands (n % 256 ∷ []) (at + length (bytesOf size (n / 256))) s = stands-second (bytesOf size (n / 256)) (n % 256 ∷ []) at s h in
+    let front : numberAt s at size ≡ n / 256 =
+    number-read size (n / 256) at s m (stands-first (bytesOf size (n / 256)) (n % 256 ∷ []) at s h) in
+    let last : Stands (n % 256 ∷ []) (at + length (bytesOf size (n / 256))) s =
+    stands-second (bytesOf size (n / 256)) (n % 256 ∷ []) at s h in
     let byte : getD s (at + size) 0 ≡ n % 256 = stands-byte (n % 256) (at + size) s (rw (length-bytesOf size (n / 256)) at last) in
     omega arith
 
@@ -130,8 +133,10 @@ number-first size n at xs s l t = number-read size n at s l (stands-first (bytes
 pub number-then : (size n at : ℕ) (xs s : List ℕ) → Stands (bytesOf size n ++ xs) at s → Stands xs (at + size) s
 number-then size n at xs s t = subst (λ k. Stands xs (at + k) s) (length-bytesOf size n) (stands-second (bytesOf size n) xs at s t)
 
-pub number-append : (size n at : ℕ) (xs s : List ℕ) → Stands (bytesOf size n) at s → Stands xs (at + size) s → Stands (bytesOf size n ++ xs) at s
-number-append size n at xs s h t = stands-append (bytesOf size n) xs at s h (subst (λ k. Stands xs (at + k) s) (sym (length-bytesOf size n)) t)
+pub number-append : (size n at : ℕ) (xs s : List ℕ) → Stands (bytesOf size n) at s → Stands xs (at + size) s
+    → Stands (bytesOf size n ++ xs) at s
+number-append size n at xs s h t =
+    stands-append (bytesOf size n) xs at s h (subst (λ k. Stands xs (at + k) s) (sym (length-bytesOf size n)) t)
 
 pub length-number : (size n : ℕ) (xs : List ℕ) → length (bytesOf size n ++ xs) ≡ size + length xs
 length-number size n xs = length-append (bytesOf size n) xs ∙ ap (λ k. k + length xs) (length-bytesOf size n)
@@ -151,27 +156,28 @@ abbrev pub recordsAt : List ℕ → (ℕ → ℕ) → ℕ → ℕ → ℕ → Li
 recordsAt s place size k n = map (λ i. numberAt s (place i) size) (numbers k n)
 
 -- the places follow one another from `at` on
-abbrev pub Row : (ℕ → ℕ) → ℕ → ℕ → ℕ → Type 0
-Row place size k at = (i : ℕ) → place (k + i) ≡ at + size * i
+abbrev pub EvenPlaces : (ℕ → ℕ) → ℕ → ℕ → ℕ → Type 0
+EvenPlaces place size k at = (i : ℕ) → place (k + i) ≡ at + size * i
 
-row-first : (place : ℕ → ℕ) (size k at : ℕ) → Row place size k at → place k ≡ at
+row-first : (place : ℕ → ℕ) (size k at : ℕ) → EvenPlaces place size k at → place k ≡ at
 row-first place size k at row = ap place (sym (add-zero k)) ∙ row 0 ∙ ap (λ j. at + j) (mul-zero size) ∙ add-zero at
 
-row-next : (place : ℕ → ℕ) (size k at : ℕ) → Row place size k at → Row place size (suc k) (at + size)
+row-next : (place : ℕ → ℕ) (size k at : ℕ) → EvenPlaces place size k at → EvenPlaces place size (suc k) (at + size)
 row-next place size k at row i =
     let e : size * suc i ≡ size * i + size = mul-suc size i in
     ap place (suc-add k i ∙ sym (add-suc k i)) ∙ row (suc i) ∙ omega arith
 
 module _ (s : List ℕ) (place : ℕ → ℕ) (size : ℕ) where
-  pub records-read : (k at : ℕ) (xs : List ℕ) → Row place size k at → All (λ x. x < 256 ^ size) xs
+  pub records-read : (k at : ℕ) (xs : List ℕ) → EvenPlaces place size k at → All (λ x. x < 256 ^ size) xs
       → Stands (packRecords size xs) at s → recordsAt s place size k (length xs) ≡ xs
   unfolding packRecords numbers
   records-read k at [] row h t = refl
   records-read k at (x ∷ xs) row h t =
       ap₂ _∷_ (ap (λ j. numberAt s j size) (row-first place size k at row) ∙ number-first size x at (packRecords size xs) s (h x here) t)
-      (records-read (suc k) (at + size) xs (row-next place size k at row) (λ y m. h y (List·Memᴰ·tail m)) (number-then size x at (packRecords size xs) s t))
+      (records-read (suc k) (at + size) xs (row-next place size k at row) (λ y m. h y (List·Memᴰ·tail m))
+      (number-then size x at (packRecords size xs) s t))
 
-  pub records-stand : (k at n : ℕ) → Row place size k at → All IsByte s → at + size * n ≤ length s
+  pub records-stand : (k at n : ℕ) → EvenPlaces place size k at → All IsByte s → at + size * n ≤ length s
       → Stands (packRecords size (recordsAt s place size k n)) at s
   unfolding packRecords numbers
   records-stand k at zero row h l = stands-nil at s

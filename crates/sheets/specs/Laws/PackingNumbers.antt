@@ -3,7 +3,8 @@
 use mathlib.Core.Path.{_≡_, refl, sym, ap, ap₂, _∙_, subst, fun-ext}
 use mathlib.Core.Logic.{_↔_, _≢_}
 use Prim.Native.Nat.{ℕ, zero, suc, _+_, _*_, _/_, _%_, _^_, _≤_, _<_}
-use native.Mathlib.Nat.{add-zero, mul-comm, mul-assoc, pow-suc, one-le-pow, div-one, mod-lt, mod-eq-of-lt, div-eq-of-lt, mul-add-div-right, mul-add-mod-self-right, div-div-eq-div-mul, div-add-mod', lt-div-mul-add, div-lt-iff-lt-mul}
+use native.Mathlib.Nat.{add-zero, mul-comm, mul-assoc, pow-suc, one-le-pow, div-one, mod-lt, mod-eq-of-lt, div-eq-of-lt, mul-add-div-right}
+use native.Mathlib.Nat.{mul-add-mod-self-right, div-div-eq-div-mul, div-add-mod', lt-div-mul-add, div-lt-iff-lt-mul}
 use native.Mathlib.Omega.{arith}
 use mathlib.Core.Bool.{Bool, true, false, _&&_, _||_, not}
 use mathlib.Core.List.{List, [], _∷_}
@@ -14,7 +15,9 @@ use Rattle.theory.specs.Laws.Options.{T-and, T-eqb}
 use Rattle.words.specs.Records.{field, isRule, basicOf, ruleIn, termOf, atomOf, factOf, stepOf}
 use Rattle.words.specs.Limits.{sheetWidth}
 use Rattle.sheets.specs.Tests.{termSound, atomSound, factSound}
-use Rattle.sheets.specs.Packing.{bitsAfter, fieldsNumber, formOf, nameOf, ruleFields, ruleNumber, termFields, termNumber, atomNumber, factNumber, stepFields, stepNumber, RuleInRange, TermInRange, AtomInRange, StepInRange, FactInRange, atomFieldsBy, AtomOver}
+use Rattle.sheets.specs.Packing.{bitsAfter, fieldsNumber, formOf, nameOf, ruleFields, ruleNumber, termFields, termNumber, atomNumber}
+use Rattle.sheets.specs.Packing.{factNumber, stepFields, stepNumber, RuleInRange, TermInRange, AtomInRange, StepInRange, FactInRange}
+use Rattle.sheets.specs.Packing.{atomFieldsBy, AtomOver}
 
 -- ---- powers
 
@@ -24,7 +27,8 @@ pow-pos n = one-le-pow n 2 (omega arith)
 pub pow-add : (m n : ℕ) → 2 ^ (m + n) ≡ 2 ^ m * 2 ^ n
 pow-add m zero = ap (λ k. 2 ^ k) (add-zero m) ∙ omega arith
 pow-add m (suc n) =
-    ap (λ k. 2 ^ k) (omega arith) ∙ pow-suc 2 (m + n) ∙ ap (λ x. x * 2) (pow-add m n) ∙ mul-assoc (2 ^ m) (2 ^ n) 2 ∙ ap (λ x. 2 ^ m * x) (sym (pow-suc 2 n))
+    ap (λ k. 2 ^ k) (omega arith) ∙ pow-suc 2 (m + n) ∙ ap (λ x. x * 2) (pow-add m n) ∙ mul-assoc (2 ^ m) (2 ^ n) 2
+    ∙ ap (λ x. 2 ^ m * x) (sym (pow-suc 2 n))
 
 -- ---- fields
 
@@ -86,7 +90,8 @@ fields-after x [] h = div-one x
 fields-after x (f ∷ fs) h =
     let y : ℕ = x / 2 ^ bits fs in
     let above : x / 2 ^ (f .0 + bits fs) ≡ y / 2 ^ (f .0) =
-    ap (λ k. x / k) (pow-add (f .0) (bits fs) ∙ mul-comm (2 ^ (f .0)) (2 ^ bits fs)) ∙ sym (div-div-eq-div-mul x (2 ^ bits fs) (2 ^ (f .0))) in
+    ap (λ k. x / k) (pow-add (f .0) (bits fs) ∙ mul-comm (2 ^ (f .0)) (2 ^ bits fs))
+    ∙ sym (div-div-eq-div-mul x (2 ^ bits fs) (2 ^ (f .0))) in
     ap (λ z. bitsAfter z fs) (ap₂ (λ a v. a * 2 ^ (f .0) + v) above (sym (h .0)) ∙ div-add-mod' y (2 ^ (f .0)))
     ∙ fields-after x fs (h .1)
 
@@ -200,7 +205,10 @@ rule-parts x k lf ln rf rn h =
 rule-read : (r : Rule) (x : ℕ) → Has x (ruleFields r) → T (isRule x) × (ruleIn x ≡ r)
 rule-read (conceptInclusion left right) x h =
     let e = rule-parts x 1 (formOf left) (nameOf left) (formOf right) (nameOf right) h in
-    let forms = T-and (ltb (formOf left) 3) (ltb (formOf right) 3) .1 (lt→ltb (formOf left) 3 (form-below left), lt→ltb (formOf right) 3 (form-below right)) in
+    let forms = T-and (ltb (formOf left) 3) (ltb (formOf right) 3) .1 (
+      lt→ltb (formOf left) 3 (form-below left),
+      lt→ltb (formOf right) 3 (form-below right),
+    ) in
     (rw (e .0) forms, e .1 ∙ ap₂ conceptInclusion (basic-read left) (basic-read right))
 rule-read (roleInclusion P true Q) x h = let e = rule-parts x 2 0 P 1 Q h in (rw (e .0) tt, e .1)
 rule-read (roleInclusion P false Q) x h = let e = rule-parts x 2 0 P 0 Q h in (rw (e .0) tt, e .1)
@@ -228,7 +236,8 @@ rule-has x t = go (eqb k 1) (T-eqb k 1 .0) t
         → Has x (ruleFields (pick b (conceptInclusion (basicOf lf ln) (basicOf rf rn)) (roleInclusion ln (eqb rf 1) rn)))
     go true e u =
         let s = T-and (ltb lf 3) (ltb rf 3) .0 u in
-        five (e tt) (sym (form-again lf ln (ltb→lt lf 3 (s .0)))) (sym (name-again lf ln)) (sym (form-again rf rn (ltb→lt rf 3 (s .1)))) (sym (name-again rf rn))
+        five (e tt) (sym (form-again lf ln (ltb→lt lf 3 (s .0)))) (sym (name-again lf ln)) (sym (form-again rf rn (ltb→lt rf 3 (s .1))))
+        (sym (name-again rf rn))
     go false e u =
         let s = T-and (eqb k 2 && eqb lf 0) (ltb rf 2) .0 u in
         let r = T-and (eqb k 2) (eqb lf 0) .0 (s .0) in
@@ -238,7 +247,8 @@ rule-again : (x : ℕ) → T (isRule x) → Has x (ruleFields (ruleIn x)) × Rul
 rule-again x t = (rule-has x t, fit-rule (ruleIn x) (fields-fit x (ruleFields (ruleIn x)) (rule-has x t)))
 
 pub rule-code : Code (2 ^ 32) ruleIn ruleNumber isRule RuleInRange
-rule-code = by-fields 32 ruleFields ruleIn isRule RuleInRange rule-bits rule-fit (λ r x h l reads. rule-read r x reads) (λ x l t. rule-again x t)
+rule-code =
+    by-fields 32 ruleFields ruleIn isRule RuleInRange rule-bits rule-fit (λ r x h l reads. rule-read r x reads) (λ x l t. rule-again x t)
 
 -- ---- steps
 
@@ -247,7 +257,10 @@ unfolding stepOf
 step-code =
     by-fields 32 stepFields stepOf (λ x. true) StepInRange (λ s. refl) (λ s h. omega arith)
     (λ s x h l reads. (tt, λ i. record { kind = reads .0 i; parent = reads .1 .0 i; atom = reads .1 .1 .0 i; other = reads .1 .1 .1 .0 i }))
-    (λ x l t. ((refl, (refl, (refl, (refl, tt)))), (field-below 30 2 x, field-below 20 10 x, field-below sheetWidth 4 x, field-below 0 16 x)))
+    (λ x l t. (
+      (refl, (refl, (refl, (refl, tt)))),
+      (field-below 30 2 x, field-below 20 10 x, field-below sheetWidth 4 x, field-below 0 16 x),
+    ))
 
 -- ---- terms, and objects
 
@@ -285,7 +298,8 @@ module _ (w : ℕ) (wide : 32 ≤ 2 ^ w) where
   term-again x l t = go (eqb (x / 2 ^ w) 0) (T-eqb (x / 2 ^ w) 0) t
     where
       go : (b : Bool) → T b ↔ (x / 2 ^ w ≡ 0) → T (not b || ltb (x % 2 ^ w) 32)
-          → Has x (termFields w (pick b (var (x % 2 ^ w)) (const (x % 2 ^ w)))) × TermInRange w (pick b (var (x % 2 ^ w)) (const (x % 2 ^ w)))
+          → Has x (termFields w (pick b (var (x % 2 ^ w)) (const (x % 2 ^ w))))
+          × TermInRange w (pick b (var (x % 2 ^ w)) (const (x % 2 ^ w)))
       go true e u = ((top-bit x l .1 ∙ e .0 tt, (low-bits x, tt)), ltb→lt (x % 2 ^ w) 32 u)
       go false e u =
           let two : x / 2 ^ w < 2 = top-bit x l .0 in
@@ -308,10 +322,13 @@ moved a b width x e h = ap (λ k. field k width x) (sym e) ∙ h
 module _ {X : Type 0} (zeros m size a b c d : ℕ) (of : ℕ → X) (sound : ℕ → Bool) where
   -- how many bits there are, and where the first four fields begin, counted from the last bit
   abbrev Places : Type 0
-  Places = (1 + (zeros + (12 + (m + (m + 0)))) ≡ size) × (zeros + (12 + (m + (m + 0))) ≡ a) × (12 + (m + (m + 0)) ≡ b) × (m + (m + 0) ≡ c) × (m + 0 ≡ d)
+  Places =
+      (1 + (zeros + (12 + (m + (m + 0)))) ≡ size) × (zeros + (12 + (m + (m + 0))) ≡ a) × (12 + (m + (m + 0)) ≡ b) × (m + (m + 0) ≡ c)
+      × (m + 0 ≡ d)
 
   abbrev argOf : ℕ → Atom X
-  argOf x = pick (eqb (field a 1 x) 0) (concept (field c 12 x) (of (field d m x))) (role (field c 12 x) (of (field d m x)) (of (field 0 m x)))
+  argOf x =
+      pick (eqb (field a 1 x) 0) (concept (field c 12 x) (of (field d m x))) (role (field c 12 x) (of (field d m x)) (of (field 0 m x)))
 
   abbrev argSound : ℕ → Bool
   argSound x = eqb (field b zeros x) 0 && sound (field d m x) && pick (eqb (field a 1 x) 0) (eqb (field 0 m x) 0) (sound (field 0 m x))
@@ -329,7 +346,8 @@ module _ {X : Type 0} (zeros m size a b c d : ℕ) (of : ℕ → X) (sound : ℕ
     arg-fit (role P s t) h = five (lit< tt) (pow-pos zeros) (h .0) (code .below s (h .1)) (code .below t (h .2))
 
     arg-parts : (x k n s t : ℕ) → Has x ((1, k) ∷ (zeros, 0) ∷ (12, n) ∷ (m, s) ∷ (m, t) ∷ [])
-        → (argOf x ≡ pick (eqb k 0) (concept n (of s)) (role n (of s) (of t))) × (argSound x ≡ (sound s && pick (eqb k 0) (eqb t 0) (sound t)))
+        → (argOf x ≡ pick (eqb k 0) (concept n (of s)) (role n (of s) (of t)))
+        × (argSound x ≡ (sound s && pick (eqb k 0) (eqb t 0) (sound t)))
     arg-parts x k n s t h =
         let ek : field a 1 x ≡ k = moved _ a 1 x (places .1) (h .0) in
         let ez : field b zeros x ≡ 0 = moved _ b zeros x (places .2) (h .1 .0) in
@@ -376,27 +394,34 @@ module _ {X : Type 0} (zeros m size a b c d : ℕ) (of : ℕ → X) (sound : ℕ
             (moved c _ 12 x (sym (places .3)) refl) (moved d _ m x (sym (places .4)) (s-in .0)) et
 
         go : (q : Bool) → T q ↔ (field a 1 x ≡ 0) → T (pick q (eqb t 0) (sound t))
-            → Has x (argFields (pick q (concept n (of s)) (role n (of s) (of t)))) × AtomOver InRange (pick q (concept n (of s)) (role n (of s) (of t)))
+            → Has x (argFields (pick q (concept n (of s)) (role n (of s) (of t))))
+            × AtomOver InRange (pick q (concept n (of s)) (role n (of s) (of t)))
         go true e v = (reads 0 0 (e .0 tt) (T-eqb t 0 .0 v), (field-below c 12 x, s-in .1))
         go false e v =
             let two : field a 1 x < 2 = field-below a 1 x in
             let set : field a 1 x ≢ 0 = e .1 in
-            let one : field a 1 x ≡ 1 = omega arith in
-            (reads 1 (number (of t)) one (sym (code .again t (field-below 0 m x) v)), (field-below c 12 x, s-in .1, code .within t (field-below 0 m x) v))
+            let one : field a 1 x ≡ 1 = omega arith in (
+              reads 1 (number (of t)) one (sym (code .again t (field-below 0 m x) v)),
+              (field-below c 12 x, s-in .1, code .within t (field-below 0 m x) v),
+            )
 
     arg-code : Code (2 ^ size) argOf (λ f. fieldsNumber (argFields f)) argSound (AtomOver InRange)
-    arg-code = by-fields size argFields argOf argSound (AtomOver InRange) arg-bits arg-fit (λ f x h l reads. arg-read f x h reads) (λ x l t. arg-again x t)
+    arg-code =
+        by-fields size argFields argOf argSound (AtomOver InRange) arg-bits arg-fit (λ f x h l reads. arg-read f x h reads)
+        (λ x l t. arg-again x t)
 
 pub atom-code : (w : ℕ) → 32 ≤ 2 ^ w → Code (2 ^ (2 * w + 16)) (atomOf w) (atomNumber w) (atomSound w) (AtomInRange w)
 unfolding atomOf atomSound
 atom-code w wide =
-    arg-code 1 (w + 1) (2 * w + 16) (2 * w + 15) (2 * w + 14) (2 * w + 2) (w + 1) (termOf w) (termSound w) (termNumber w) (TermInRange w) (omega arith) (term-code w wide)
+    arg-code 1 (w + 1) (2 * w + 16) (2 * w + 15) (2 * w + 14) (2 * w + 2) (w + 1) (termOf w) (termSound w) (termNumber w) (TermInRange w)
+    (omega arith) (term-code w wide)
 
 pub fact-code : (w : ℕ) → Code (2 ^ (2 * w + 16)) (factOf w) (factNumber w) (factSound w) (FactInRange w)
 unfolding factOf factSound
 fact-code w =
     subst (λ sound. Code (2 ^ (2 * w + 16)) (factOf w) (factNumber w) sound (FactInRange w)) (fun-ext same)
-    (arg-code 3 w (2 * w + 16) (2 * w + 15) (2 * w + 12) (2 * w) w (λ o. o) (λ o. true) (λ o. o) (λ o. o < 2 ^ w) (omega arith) (object-code w))
+    (arg-code 3 w (2 * w + 16) (2 * w + 15) (2 * w + 12) (2 * w) w (λ o. o) (λ o. true) (λ o. o) (λ o. o < 2 ^ w) (omega arith)
+    (object-code w))
   where
     drop-true : (p q : Bool) → (p && true && q) ≡ (p && q)
     drop-true true q = refl

@@ -10,14 +10,16 @@ use lib.Dec.{T}
 use lib.ListN.{length, getD, length-append, length-map}
 use Rattle.theory.specs.Lists.{all}
 use Rattle.theory.specs.Syntax.{Query}
-use Rattle.sheets.specs.Bits.{numberAt}
 use Rattle.words.specs.Limits.{answerBytes, recordBytes}
-use Rattle.sheets.specs.Format.{termCount, atomCount, questionLength, answerRecords, atomRecords, queryAt}
 use Rattle.words.specs.Records.{termOf, atomOf}
+use Rattle.sheets.specs.Bits.{numberAt}
+use Rattle.sheets.specs.Format.{termCount, atomCount, questionLength, answerRecords, atomRecords, queryAt}
 use Rattle.sheets.specs.Tests.{termSound, answerSound, atomSound, questionSound, refuses3}
-use Rattle.sheets.specs.Packing.{bytesOf, fieldsNumber, termNumber, atomNumber, packQuery, All, IsByte, TermInRange, AtomInRange, QueryInRange, WholeBytes}
+use Rattle.sheets.specs.Packing.{bytesOf, fieldsNumber, termNumber, atomNumber, packQuery, All, IsByte, TermInRange, AtomInRange}
+use Rattle.sheets.specs.Packing.{QueryInRange, WholeBytes}
 use Rattle.sheets.specs.Laws.Tests.{itself, not-tells, and-tells, or-tells, eqb-tells, leb-tells, ltb-tells, records-length}
-use Rattle.sheets.specs.Laws.PackingBytes.{Stands, stands-whole, stands-all, stands-first, stands-second, stands-append, stands-byte, byte-stands, number-then, number-append, length-number, Row, all-at}
+use Rattle.sheets.specs.Laws.PackingBytes.{Stands, stands-whole, stands-all, stands-first, stands-second, stands-append, stands-byte}
+use Rattle.sheets.specs.Laws.PackingBytes.{byte-stands, number-then, number-append, length-number, EvenPlaces, all-at}
 use Rattle.sheets.specs.Laws.PackingNumbers.{Code, term-code, atom-code}
 use Rattle.sheets.specs.Laws.PackingSheets.{unmet, pack, length-pack, list-read, list-again, record-bound, answer-bound, wide}
 
@@ -53,10 +55,10 @@ module _ (w : ℕ) (whole : WholeBytes w) where
   abbrev atomPlace : ℕ → ℕ → ℕ → ℕ
   atomPlace at n i = atomsStart at n + recordBytes w * i
 
-  answer-row : (at : ℕ) → Row (answerPlace at) (answerBytes w) 0 (at + 1)
+  answer-row : (at : ℕ) → EvenPlaces (answerPlace at) (answerBytes w) 0 (at + 1)
   answer-row at i = ap (answerPlace at) (zero-add i)
 
-  atom-row : (at n : ℕ) → Row (atomPlace at n) (recordBytes w) 0 (atomsStart at n)
+  atom-row : (at n : ℕ) → EvenPlaces (atomPlace at n) (recordBytes w) 0 (atomsStart at n)
   atom-row at n i = ap (atomPlace at n) (zero-add i)
 
   -- ---- a packed question that stands in a sheet
@@ -78,14 +80,17 @@ module _ (w : ℕ) (whole : WholeBytes w) where
   unfolding packQuery
   length-question q =
       length-number 1 (countsNumber q) (packAnswers q ++ packAtoms q)
-      ∙ ap (λ n. 1 + n) (length-append (packAnswers q) (packAtoms q) ∙ ap₂ _+_ (length-pack (answerBytes w) answer-code (q .answers)) (length-pack (recordBytes w) atom-record-code (q .atoms)))
+      ∙ ap (λ n. 1 + n) (length-append (packAnswers q) (packAtoms q)
+      ∙ ap₂ _+_ (length-pack (answerBytes w) answer-code (q .answers)) (length-pack (recordBytes w) atom-record-code (q .atoms)))
       ∙ sym (add-assoc 1 (answerBytes w * length (q .answers)) (recordBytes w * length (q .atoms)))
 
   question-iff : (s : List ℕ) (at : ℕ) → T (questionSound w s at)
-      ↔ (((((termCount s at ≤ 4) × (1 ≤ atomCount s at)) × (atomCount s at ≤ 8)) × T (all (answerSound w) (answerRecords w s at))) × T (all (atomSound w) (atomRecords w s at)))
+      ↔ (((((termCount s at ≤ 4) × (1 ≤ atomCount s at)) × (atomCount s at ≤ 8)) × T (all (answerSound w) (answerRecords w s at)))
+      × T (all (atomSound w) (atomRecords w s at)))
   unfolding questionSound
   question-iff s at =
-      and-tells (and-tells (and-tells (and-tells (leb-tells (termCount s at) 4) (leb-tells 1 (atomCount s at))) (leb-tells (atomCount s at) 8))
+      and-tells (and-tells (and-tells (and-tells (leb-tells (termCount s at) 4) (leb-tells 1 (atomCount s at)))
+      (leb-tells (atomCount s at) 8))
       (itself (all (answerSound w) (answerRecords w s at)))) (itself (all (atomSound w) (atomRecords w s at))) .pass
 
   counts-read : (q : Query) (s : List ℕ) (at : ℕ) → QueryInRange w q → Stands (counts q) at s
@@ -107,7 +112,8 @@ module _ (w : ℕ) (whole : WholeBytes w) where
       ap (λ k. at + 1 + k) (length-pack (answerBytes w) answer-code (q .answers)) ∙ ap (atomsStart at) (sym (n .0)) in
       let a = list-read (answerBytes w) answer-code s (answerPlace at) (at + 1) (answer-row at)
       (termCount s at) (q .answers) (n .0) (h .answers-in) (stands-first (packAnswers q) (packAtoms q) (at + 1) s lists) in
-      let b = list-read (recordBytes w) atom-record-code s (atomPlace at (termCount s at)) (atomsStart at (termCount s at)) (atom-row at (termCount s at))
+      let b = list-read (recordBytes w) atom-record-code s (atomPlace at (termCount s at)) (atomsStart at (termCount s at))
+      (atom-row at (termCount s at))
       (atomCount s at) (q .atoms) (n .1) (h .atoms-in)
       (subst (λ k. Stands (packAtoms q) k s) start (stands-second (packAnswers q) (packAtoms q) (at + 1) s lists)) in (
         λ i. record { answers = a .0 i; atoms = b .0 i },
@@ -119,16 +125,21 @@ module _ (w : ℕ) (whole : WholeBytes w) where
 
   pub answers-count : (s : List ℕ) (at : ℕ) → length (queryAt w s at .answers) ≡ termCount s at
   unfolding queryAt
-  answers-count s at = length-map (answerRecords w s at) (termOf w) ∙ records-length (λ i. numberAt s (answerPlace at i) (answerBytes w)) (termCount s at)
+  answers-count s at =
+      length-map (answerRecords w s at) (termOf w) ∙ records-length (λ i. numberAt s (answerPlace at i) (answerBytes w)) (termCount s at)
 
   atoms-count : (s : List ℕ) (at : ℕ) → length (queryAt w s at .atoms) ≡ atomCount s at
   unfolding queryAt
-  atoms-count s at = length-map (atomRecords w s at) (atomOf w) ∙ records-length (λ i. numberAt s (atomPlace at (termCount s at) i) (recordBytes w)) (atomCount s at)
+  atoms-count s at =
+      length-map (atomRecords w s at) (atomOf w)
+      ∙ records-length (λ i. numberAt s (atomPlace at (termCount s at) i) (recordBytes w)) (atomCount s at)
 
   pub length-again : (s : List ℕ) (at : ℕ) → length (packQuery w (queryAt w s at)) ≡ questionLength w s at
-  length-again s at = length-question (queryAt w s at) ∙ ap₂ (λ j k. 1 + answerBytes w * j + recordBytes w * k) (answers-count s at) (atoms-count s at)
+  length-again s at =
+      length-question (queryAt w s at) ∙ ap₂ (λ j k. 1 + answerBytes w * j + recordBytes w * k) (answers-count s at) (atoms-count s at)
 
-  counts-again : (q : Query) (s : List ℕ) (at : ℕ) → All IsByte s → length (q .answers) ≡ termCount s at → length (q .atoms) ≡ atomCount s at
+  counts-again : (q : Query) (s : List ℕ) (at : ℕ) → All IsByte s → length (q .answers) ≡ termCount s at
+      → length (q .atoms) ≡ atomCount s at
       → counts q ≡ getD s at 0 ∷ []
   unfolding bytesOf fieldsNumber
   counts-again q s at bytes a b =
@@ -139,12 +150,14 @@ module _ (w : ℕ) (whole : WholeBytes w) where
     answers-again : Stands (packAnswers (queryAt w s at)) (at + 1) s × All (TermInRange w) (queryAt w s at .answers)
     unfolding queryAt
     answers-again =
-        list-again (answerBytes w) answer-code s (answerPlace at) (at + 1) (answer-row at) (termCount s at) bytes (omega arith) (question-iff s at .0 t .0 .1)
+        list-again (answerBytes w) answer-code s (answerPlace at) (at + 1) (answer-row at) (termCount s at) bytes (omega arith)
+        (question-iff s at .0 t .0 .1)
 
     atoms-again : Stands (packAtoms (queryAt w s at)) (atomsStart at (termCount s at)) s × All (AtomInRange w) (queryAt w s at .atoms)
     unfolding queryAt
     atoms-again =
-        list-again (recordBytes w) atom-record-code s (atomPlace at (termCount s at)) (atomsStart at (termCount s at)) (atom-row at (termCount s at))
+        list-again (recordBytes w) atom-record-code s (atomPlace at (termCount s at)) (atomsStart at (termCount s at))
+        (atom-row at (termCount s at))
         (atomCount s at) bytes (omega arith) (question-iff s at .0 t .1)
 
     pub question-again : Stands (packQuery w (queryAt w s at)) at s
@@ -152,11 +165,13 @@ module _ (w : ℕ) (whole : WholeBytes w) where
     question-again =
         let q : Query = queryAt w s at in
         let header : Stands (counts q) at s =
-        subst (λ xs. Stands xs at s) (sym (counts-again q s at bytes (answers-count s at) (atoms-count s at))) (byte-stands at s (omega arith)) in
+        subst (λ xs. Stands xs at s) (sym (counts-again q s at bytes (answers-count s at) (atoms-count s at)))
+        (byte-stands at s (omega arith)) in
         let start : atomsStart at (termCount s at) ≡ at + 1 + length (packAnswers q) =
         sym (ap (λ k. at + 1 + k) (length-pack (answerBytes w) answer-code (q .answers)) ∙ ap (atomsStart at) (answers-count s at)) in
         number-append 1 (countsNumber q) at (packAnswers q ++ packAtoms q) s header
-        (stands-append (packAnswers q) (packAtoms q) (at + 1) s (answers-again .0) (subst (λ k. Stands (packAtoms q) k s) start (atoms-again .0)))
+        (stands-append (packAnswers q) (packAtoms q) (at + 1) s (answers-again .0)
+        (subst (λ k. Stands (packAtoms q) k s) start (atoms-again .0)))
 
     pub question-in : QueryInRange w (queryAt w s at)
     question-in =

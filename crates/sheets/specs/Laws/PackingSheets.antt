@@ -3,7 +3,8 @@
 use mathlib.Core.Path.{_≡_, refl, sym, ap, _∙_, subst}
 use mathlib.Core.Logic.{_↔_}
 use Prim.Native.Nat.{ℕ, zero, suc, _+_, _*_, _/_, _%_, _^_, _≤_, _<_}
-use native.Mathlib.Nat.{zero-add, add-zero, mul-suc, pow-suc, pow-le-pow-right, div-add-mod, mul-div-cancel-left, mul-mod-right, mul-le-mul-left, div-le-of-le-mul}
+use native.Mathlib.Nat.{zero-add, add-zero, mul-suc, pow-suc, pow-le-pow-right, div-add-mod, mul-div-cancel-left, mul-mod-right}
+use native.Mathlib.Nat.{mul-le-mul-left, div-le-of-le-mul}
 use native.Mathlib.Omega.{arith}
 use mathlib.Core.Bool.{Bool, not, _||_}
 use mathlib.Core.List.{List, map, map-id, Memᴰ·of-map}
@@ -13,15 +14,17 @@ use Rattle.theory.specs.Lists.{all, numbers}
 use Rattle.theory.specs.Syntax.{Rule, Fact}
 use Rattle.theory.specs.Laws.Options.{T-no}
 use Rattle.theory.specs.Laws.Lists.{all-iff, map-after}
-use Rattle.sheets.specs.Bits.{numberAt}
-use Rattle.sheets.specs.Format.{recordsFrom, ruleRecords, rulesOf, factsOf}
 use Rattle.words.specs.Limits.{sheetWidth, wordWidth, mostRules, mostFacts, ruleBytes, answerBytes, recordBytes}
 use Rattle.words.specs.Records.{isRule, ruleIn, factOf}
+use Rattle.sheets.specs.Bits.{numberAt}
+use Rattle.sheets.specs.Format.{recordsFrom, ruleRecords, rulesOf, factsOf}
 use Rattle.sheets.specs.Tests.{refuses1, refuses2, refuses12, factSound, refuses13}
-use Rattle.sheets.specs.Packing.{packRecords, packRules, factNumber, packFacts, All, IsByte, RuleInRange, RulesInRange, FactInRange, FactsInRange, WholeBytes}
+use Rattle.sheets.specs.Packing.{packRecords, packRules, factNumber, packFacts, All, IsByte, RuleInRange, RulesInRange, FactInRange}
+use Rattle.sheets.specs.Packing.{FactsInRange, WholeBytes}
 use Rattle.sheets.specs.Laws.Tests.{Tells, itself, not-tells, or-tells, eqb-tells, ltb-tells, records-length}
 use Rattle.sheets.specs.Laws.RuleRefusals.{rules-all}
-use Rattle.sheets.specs.Laws.PackingBytes.{Stands, stands-whole, stands-all, number-below, length-records, recordsAt, Row, records-read, records-stand}
+use Rattle.sheets.specs.Laws.PackingBytes.{Stands, stands-whole, stands-all, number-below, length-records, recordsAt, EvenPlaces}
+use Rattle.sheets.specs.Laws.PackingBytes.{records-read, records-stand}
 use Rattle.sheets.specs.Laws.PackingNumbers.{Code, rule-code, fact-code, pow-add}
 
 -- ---- on lists
@@ -47,7 +50,8 @@ right-length size most s = unmet (or-tells (not-tells (eqb-tells (length s % siz
 
 -- ---- records of one size and one code
 
-module _ {X : Type 0} {of : ℕ → X} {number : X → ℕ} {sound : ℕ → Bool} {InRange : X → Type 0} (size : ℕ) (code : Code (256 ^ size) of number sound InRange) where
+module _ {X : Type 0} {of : ℕ → X} {number : X → ℕ} {sound : ℕ → Bool} {InRange : X → Type 0} (size : ℕ)
+    (code : Code (256 ^ size) of number sound InRange) where
   abbrev pub pack : List X → List ℕ
   pack vs = packRecords size (map number vs)
 
@@ -55,7 +59,7 @@ module _ {X : Type 0} {of : ℕ → X} {number : X → ℕ} {sound : ℕ → Boo
   length-pack vs = length-records size (map number vs) ∙ ap (λ n. size * n) (length-map vs number)
 
   -- from some place of a sheet on
-  module _ (s : List ℕ) (place : ℕ → ℕ) (at : ℕ) (row : Row place size 0 at) where
+  module _ (s : List ℕ) (place : ℕ → ℕ) (at : ℕ) (row : EvenPlaces place size 0 at) where
     pub list-read : (n : ℕ) (vs : List X) → n ≡ length vs → All InRange vs → Stands (pack vs) at s
         → (map of (recordsAt s place size 0 n) ≡ vs) × T (all sound (recordsAt s place size 0 n))
     list-read n vs l h t =
@@ -68,7 +72,8 @@ module _ {X : Type 0} {of : ℕ → X} {number : X → ℕ} {sound : ℕ → Boo
         → Stands (pack (map of (recordsAt s place size 0 n))) at s × All InRange (map of (recordsAt s place size 0 n))
     list-again n bytes l t =
         let xs : List ℕ = recordsAt s place size 0 n in
-        let below : All (λ x. x < 256 ^ size) xs = all-map (λ x. x < 256 ^ size) (λ i. numberAt s (place i) size) (numbers 0 n) (λ i m. number-below s (place i) size bytes) in
+        let below : All (λ x. x < 256 ^ size) xs =
+        all-map (λ x. x < 256 ^ size) (λ i. numberAt s (place i) size) (numbers 0 n) (λ i m. number-below s (place i) size bytes) in
         let passes : All (λ x. T (sound x)) xs = all-iff sound xs .0 t in
         let again : map number (map of xs) ≡ xs = map-back of number xs (λ x m. code .again x (below x m) (passes x m)) in
         (rw again (records-stand s place size 0 at n row bytes l), all-map InRange of xs (λ x m. code .within x (below x m) (passes x m)))
@@ -80,7 +85,7 @@ module _ {X : Type 0} {of : ℕ → X} {number : X → ℕ} {sound : ℕ → Boo
   abbrev values : List ℕ → List X
   values s = map of (records s)
 
-  whole-row : Row (λ i. 0 + size * i) size 0 0
+  whole-row : EvenPlaces (λ i. 0 + size * i) size 0 0
   whole-row i = ap (λ j. 0 + size * j) (zero-add i)
 
   values-count : (s : List ℕ) → length (values s) ≡ length s / size
@@ -102,9 +107,11 @@ module _ {X : Type 0} {of : ℕ → X} {number : X → ℕ} {sound : ℕ → Boo
       → (pack (values s) ≡ s) × (length (values s) ≤ most) × All InRange (values s)
   sheet-again most s bytes f g =
       let e = right-length size most s .0 f in
-      let n : size * (length s / size) ≡ length s = sym (add-zero (size * (length s / size))) ∙ ap (λ r. size * (length s / size) + r) (sym (e .0)) ∙ div-add-mod (length s) size in
+      let n : size * (length s / size) ≡ length s = sym (add-zero (size * (length s / size)))
+      ∙ ap (λ r. size * (length s / size) + r) (sym (e .0)) ∙ div-add-mod (length s) size in
       let len : length (pack (values s)) ≡ length s = length-pack (values s) ∙ ap (λ k. size * k) (values-count s) ∙ n in
-      let r = list-again s (λ i. 0 + size * i) 0 whole-row (length s / size) bytes (omega arith) (unmet (not-tells (itself (all sound (records s)))) .0 g) in
+      let r = list-again s (λ i. 0 + size * i) 0 whole-row (length s / size) bytes (omega arith)
+      (unmet (not-tells (itself (all sound (records s)))) .0 g) in
       (stands-all (pack (values s)) s (r .0) (omega arith), rw (values-count s) (div-le-of-le-mul size (e .1)), r .1)
 
 -- ---- rules
@@ -166,7 +173,8 @@ module _ (w : ℕ) (whole : WholeBytes w) where
   unfolding factsOf packFacts
   packed-facts-read facts h = sheet-read (recordBytes w) facts-code record-pos facts h .0
 
-  pub packed-facts-pass : (facts : List Fact) → FactsInRange w facts → (¬ T (refuses12 w (packFacts w facts))) × (¬ T (refuses13 w (packFacts w facts)))
+  pub packed-facts-pass : (facts : List Fact) → FactsInRange w facts → (¬ T (refuses12 w (packFacts w facts)))
+      × (¬ T (refuses13 w (packFacts w facts)))
   unfolding packFacts refuses12 refuses13
   packed-facts-pass facts h = sheet-passes (recordBytes w) facts-code mostFacts facts record-pos (h .0) (h .1)
 

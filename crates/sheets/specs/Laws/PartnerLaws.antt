@@ -9,7 +9,8 @@ use mathlib.Core.List.{List, [], _∷_, List·Memᴰ·head, List·Memᴰ·tail, 
 use lib.Dec.{T, eqb, ltb}
 use lib.ListN.{length, getD, List·getD-eq-default}
 use Rattle.theory.specs.Lists.{_∈_, pick, all, numbers}
-use Rattle.theory.specs.Syntax.{Term, Atom, concept, role, Basic, named, has, hasInverse, Rule, conceptInclusion, roleInclusion, Query, args, terms, oriented}
+use Rattle.theory.specs.Syntax.{Term, Atom, concept, role, Basic, named, has, hasInverse, Rule, conceptInclusion, roleInclusion, Query}
+use Rattle.theory.specs.Syntax.{args, terms, oriented}
 use Rattle.theory.specs.Laws.Options.{T-no, either, is-true, is-false, T-eqb, pick-true, pick-false}
 use Rattle.theory.specs.Laws.Lists.{all-iff}
 use Rattle.theory.specs.Laws.Syntax.{terms-answers, terms-atoms, terms-cases}
@@ -36,8 +37,10 @@ by-test : (partners : List ℕ) → T (isInvolutive partners) → Involutive par
 by-test partners t P =
     let inside = ltb-tells P (length partners) in
     elim (either (ltb P (length partners))) [
-      | inl u ↦ T-eqb _ _ .0 (all-iff (λ P. eqb (partnerOf partners (partnerOf partners P)) P) (numbers 0 (length partners)) .0 t P (numbers-iff (length partners) P .1 (inside .pass .0 u)))
-      | inr f ↦ (let e : partnerOf partners P ≡ P = no-partner partners P (inside .fail .0 (T-no (ltb P (length partners)) .1 f)) in ap (partnerOf partners) e ∙ e)
+      | inl u ↦ T-eqb _ _ .0 (all-iff (λ P. eqb (partnerOf partners (partnerOf partners P)) P) (numbers 0 (length partners)) .0 t P
+          (numbers-iff (length partners) P .1 (inside .pass .0 u)))
+      | inr f ↦ (let e : partnerOf partners P ≡ P = no-partner partners P (inside .fail .0 (T-no (ltb P (length partners)) .1 f)) in
+          ap (partnerOf partners) e ∙ e)
     ]
 
 pub partners01-involutive : Involutive partners01
@@ -96,11 +99,14 @@ module _ (partners : List ℕ) where
 
   not-higher : (P : ℕ) → P ≤ partnerOf partners P → Settled P
   unfolding lower isHigher
-  not-higher P l = let f = T-no (isHigher partners P) .0 (ltb-tells (partnerOf partners P) P .fail .1 l) in (is-false (isHigher partners P) f, pick-false (isHigher partners P) _ _ f)
+  not-higher P l =
+      let f = T-no (isHigher partners P) .0 (ltb-tells (partnerOf partners P) P .fail .1 l) in
+      (is-false (isHigher partners P) f, pick-false (isHigher partners P) _ _ f)
 
   higher : (P : ℕ) → partnerOf partners P < P → (isHigher partners P ≡ true) × (lower partners P ≡ partnerOf partners P)
   unfolding lower isHigher
-  higher P l = let t = ltb-tells (partnerOf partners P) P .pass .1 l in (is-true (isHigher partners P) t, pick-true (isHigher partners P) _ _ t)
+  higher P l =
+      let t = ltb-tells (partnerOf partners P) P .pass .1 l in (is-true (isHigher partners P) t, pick-true (isHigher partners P) _ _ t)
 
   -- a role entered as its own partner, or with none, is "read unchanged"
   pub own-settled : (P : ℕ) → partnerOf partners P ≡ P → Settled P
@@ -133,7 +139,8 @@ module _ (partners : List ℕ) where
   terms-asRead q {t} = (
     λ m. elim (terms-cases (queryAsRead partners q) m) [
       | inl n ↦ terms-answers q n
-      | inr (a, n, k) ↦ (let (b, l, e) = Memᴰ·of-map (atomAsRead partners) (q .atoms) n in terms-atoms q l (args-asRead b .0 (subst (λ c. t ∈ args c) (sym e) k)))
+      | inr (a, n, k) ↦ (let (b, l, e) = Memᴰ·of-map (atomAsRead partners) (q .atoms) n in
+          terms-atoms q l (args-asRead b .0 (subst (λ c. t ∈ args c) (sym e) k)))
     ],
     λ m. elim (terms-cases q m) [
       | inl n ↦ terms-answers (queryAsRead partners q) n
@@ -145,17 +152,21 @@ module _ (partners : List ℕ) (involutive : Involutive partners) where
   -- what a role is read as is settled
   pub lower-settled : (P : ℕ) → Settled partners (lower partners P)
   lower-settled P = elim (lt-or-le (partnerOf partners P) P) [
-    | inl l ↦ (let i = involutive P in subst (Settled partners) (sym (higher partners P l .1)) (not-higher partners (partnerOf partners P) (omega arith)))
+    | inl l ↦ (let i = involutive P in
+        subst (Settled partners) (sym (higher partners P l .1)) (not-higher partners (partnerOf partners P) (omega arith)))
     | inr l ↦ (let s = not-higher partners P l in subst (Settled partners) (sym (s .1)) s)
   ]
 
   -- of two different partners one is the higher, and both are read as the same
-  partner-other : (P : ℕ) → partnerOf partners P ≢ P → (isHigher partners (partnerOf partners P) ≡ not (isHigher partners P)) × (lower partners (partnerOf partners P) ≡ lower partners P)
+  partner-other : (P : ℕ) → partnerOf partners P ≢ P → (isHigher partners (partnerOf partners P) ≡ not (isHigher partners P))
+      × (lower partners (partnerOf partners P) ≡ lower partners P)
   partner-other P d =
       let i = involutive P in
       elim (lt-or-le (partnerOf partners P) P) [
-        | inl l ↦ (let h = higher partners P l in let s = not-higher partners (partnerOf partners P) (omega arith) in (s .0 ∙ ap not (sym (h .0)), s .1 ∙ sym (h .1)))
-        | inr l ↦ (let s = not-higher partners P l in let h = higher partners (partnerOf partners P) (omega arith) in (h .0 ∙ ap not (sym (s .0)), h .1 ∙ i ∙ sym (s .1)))
+        | inl l ↦ (let h = higher partners P l in let s = not-higher partners (partnerOf partners P) (omega arith) in
+            (s .0 ∙ ap not (sym (h .0)), s .1 ∙ sym (h .1)))
+        | inr l ↦ (let s = not-higher partners P l in let h = higher partners (partnerOf partners P) (omega arith) in
+            (h .0 ∙ ap not (sym (s .0)), h .1 ∙ i ∙ sym (s .1)))
       ]
 
   -- ---- reading twice is reading once
@@ -163,60 +174,73 @@ module _ (partners : List ℕ) (involutive : Involutive partners) where
   pub atomAsRead-again : {X : Type 0} (a : Atom X) → atomAsRead partners (atomAsRead partners a) ≡ atomAsRead partners a
   unfolding atomAsRead
   atomAsRead-again (concept A x) = refl
-  atomAsRead-again (role P x y) = elim (isHigher partners P) as (λ h. atomAsRead partners (oriented h (lower partners P) x y) ≡ oriented h (lower partners P) x y) [
-    | true ↦ settled-atom partners (lower partners P) (lower-settled P) y x
-    | false ↦ settled-atom partners (lower partners P) (lower-settled P) x y
-  ]
+  atomAsRead-again (role P x y) =
+      elim (isHigher partners P) as (λ h. atomAsRead partners (oriented h (lower partners P) x y) ≡ oriented h (lower partners P) x y) [
+        | true ↦ settled-atom partners (lower partners P) (lower-settled P) y x
+        | false ↦ settled-atom partners (lower partners P) (lower-settled P) x y
+      ]
 
   pub basicAsRead-again : (B : Basic) → basicAsRead partners (basicAsRead partners B) ≡ basicAsRead partners B
   unfolding basicAsRead
   basicAsRead-again (named A) = refl
-  basicAsRead-again (has P) = elim (isHigher partners P) as (λ h. basicAsRead partners (pick h (hasInverse (lower partners P)) (has (lower partners P))) ≡ pick h (hasInverse (lower partners P)) (has (lower partners P))) [
-    | true ↦ settled-hasInverse partners (lower partners P) (lower-settled P)
-    | false ↦ settled-has partners (lower partners P) (lower-settled P)
-  ]
-  basicAsRead-again (hasInverse P) = elim (isHigher partners P) as (λ h. basicAsRead partners (pick h (has (lower partners P)) (hasInverse (lower partners P))) ≡ pick h (has (lower partners P)) (hasInverse (lower partners P))) [
-    | true ↦ settled-has partners (lower partners P) (lower-settled P)
-    | false ↦ settled-hasInverse partners (lower partners P) (lower-settled P)
-  ]
+  basicAsRead-again (has P) =
+      elim (isHigher partners P) as (λ h. basicAsRead partners (pick h (hasInverse (lower partners P)) (has (lower partners P)))
+      ≡ pick h (hasInverse (lower partners P)) (has (lower partners P))) [
+        | true ↦ settled-hasInverse partners (lower partners P) (lower-settled P)
+        | false ↦ settled-has partners (lower partners P) (lower-settled P)
+      ]
+  basicAsRead-again (hasInverse P) =
+      elim (isHigher partners P) as (λ h. basicAsRead partners (pick h (has (lower partners P)) (hasInverse (lower partners P)))
+      ≡ pick h (has (lower partners P)) (hasInverse (lower partners P))) [
+        | true ↦ settled-has partners (lower partners P) (lower-settled P)
+        | false ↦ settled-hasInverse partners (lower partners P) (lower-settled P)
+      ]
 
   pub ruleAsRead-again : (r : Rule) → ruleAsRead partners (ruleAsRead partners r) ≡ ruleAsRead partners r
   unfolding ruleAsRead
   ruleAsRead-again (conceptInclusion left right) = ap₂ conceptInclusion (basicAsRead-again left) (basicAsRead-again right)
   ruleAsRead-again (roleInclusion P exchanged Q) =
       let flips : Bool = xor exchanged (xor (isHigher partners P) (isHigher partners Q)) in
-      λ i. roleInclusion (lower-settled P .1 i) ((ap₂ (λ h k. xor flips (xor h k)) (lower-settled P .0) (lower-settled Q .0) ∙ xor-false flips) i) (lower-settled Q .1 i)
+      λ i. roleInclusion (lower-settled P .1 i) ((ap₂ (λ h k. xor flips (xor h k)) (lower-settled P .0) (lower-settled Q .0)
+      ∙ xor-false flips) i) (lower-settled Q .1 i)
 
   -- ---- a role gives way to a partner other than itself
 
-  pub atom-by-partner : {X : Type 0} (P : ℕ) → partnerOf partners P ≢ P → (x y : X) → atomAsRead partners (role (partnerOf partners P) y x) ≡ atomAsRead partners (role P x y)
+  pub atom-by-partner : {X : Type 0} (P : ℕ) → partnerOf partners P ≢ P → (x y : X) → atomAsRead partners (role (partnerOf partners P) y x)
+      ≡ atomAsRead partners (role P x y)
   unfolding atomAsRead
   atom-by-partner P d x y =
       let other = partner-other P d in
       ap₂ (λ h L. oriented h L y x) (other .0) (other .1) ∙ oriented-not (isHigher partners P) (lower partners P) x y
 
-  pub has-by-partner : (P : ℕ) → partnerOf partners P ≢ P → basicAsRead partners (hasInverse (partnerOf partners P)) ≡ basicAsRead partners (has P)
+  pub has-by-partner : (P : ℕ) → partnerOf partners P ≢ P → basicAsRead partners (hasInverse (partnerOf partners P))
+      ≡ basicAsRead partners (has P)
   unfolding basicAsRead
   has-by-partner P d =
       let other = partner-other P d in
-      ap₂ (λ h L. pick h (has L) (hasInverse L)) (other .0) (other .1) ∙ pick-not (isHigher partners P) (has (lower partners P)) (hasInverse (lower partners P))
+      ap₂ (λ h L. pick h (has L) (hasInverse L)) (other .0) (other .1)
+      ∙ pick-not (isHigher partners P) (has (lower partners P)) (hasInverse (lower partners P))
 
-  pub hasInverse-by-partner : (P : ℕ) → partnerOf partners P ≢ P → basicAsRead partners (has (partnerOf partners P)) ≡ basicAsRead partners (hasInverse P)
+  pub hasInverse-by-partner : (P : ℕ) → partnerOf partners P ≢ P → basicAsRead partners (has (partnerOf partners P))
+      ≡ basicAsRead partners (hasInverse P)
   unfolding basicAsRead
   hasInverse-by-partner P d =
       let other = partner-other P d in
-      ap₂ (λ h L. pick h (hasInverse L) (has L)) (other .0) (other .1) ∙ pick-not (isHigher partners P) (hasInverse (lower partners P)) (has (lower partners P))
+      ap₂ (λ h L. pick h (hasInverse L) (has L)) (other .0) (other .1)
+      ∙ pick-not (isHigher partners P) (hasInverse (lower partners P)) (has (lower partners P))
 
   pub left-by-partner : (P : ℕ) (exchanged : Bool) (Q : ℕ) → partnerOf partners P ≢ P
       → ruleAsRead partners (roleInclusion (partnerOf partners P) (not exchanged) Q) ≡ ruleAsRead partners (roleInclusion P exchanged Q)
   unfolding ruleAsRead
   left-by-partner P exchanged Q d =
       let other = partner-other P d in
-      ap₂ (λ L e. roleInclusion L e (lower partners Q)) (other .1) (flip-left exchanged (isHigher partners P) (isHigher partners Q) (other .0))
+      ap₂ (λ L e. roleInclusion L e (lower partners Q)) (other .1)
+      (flip-left exchanged (isHigher partners P) (isHigher partners Q) (other .0))
 
   pub right-by-partner : (P : ℕ) (exchanged : Bool) (Q : ℕ) → partnerOf partners Q ≢ Q
       → ruleAsRead partners (roleInclusion P (not exchanged) (partnerOf partners Q)) ≡ ruleAsRead partners (roleInclusion P exchanged Q)
   unfolding ruleAsRead
   right-by-partner P exchanged Q d =
       let other = partner-other Q d in
-      ap₂ (λ L e. roleInclusion (lower partners P) e L) (other .1) (flip-right exchanged (isHigher partners P) (isHigher partners Q) (other .0))
+      ap₂ (λ L e. roleInclusion (lower partners P) e L) (other .1)
+      (flip-right exchanged (isHigher partners P) (isHigher partners Q) (other .0))

@@ -5,7 +5,8 @@ use Prim.Native.Nat.{ℕ, zero, suc, _+_, _/_, _%_, _^_, _≤_, _<_, zero-le, su
 use native.Mathlib.Nat.{le-of-suc-le-suc, not-suc-le-zero}
 use native.Mathlib.Omega.{arith}
 use mathlib.Core.Bool.{Bool, true, false, not}
-use mathlib.Core.List.{List, [], _∷_, _++_, map, List·Memᴰ·head, List·Memᴰ·eq-of-singleton, List·Memᴰ·append-cases, Memᴰ·append-left, Memᴰ·append-right, Memᴰ·cast, Memᴰ·map, Memᴰ·of-map}
+use mathlib.Core.List.{List, [], _∷_, _++_, map, List·Memᴰ·head, List·Memᴰ·eq-of-singleton, List·Memᴰ·append-cases, Memᴰ·append-left}
+use mathlib.Core.List.{Memᴰ·append-right, Memᴰ·cast, Memᴰ·map, Memᴰ·of-map}
 use lib.Dec.{T, eqb}
 use lib.ListN.{length, length-map}
 use Rattle.theory.specs.Lists.{_∈_, At, Unrepeated, pick, any}
@@ -21,7 +22,9 @@ use Rattle.sheets.specs.Partners.{atomAsRead, queryAsRead}
 use Rattle.sheets.specs.Reading.{questionAsRead}
 use Rattle.sheets.specs.Tests.{termSound, answerSound, atomSound, questionSound, refuses3, covered, refuses4, repeats, refuses5}
 use Rattle.sheets.specs.Conditions.{AtomBitSet, VariableOut, Malformed, Meets3, Meets4, Twice, Meets5}
-use Rattle.sheets.specs.Laws.Tests.{sum-iff, sum-assoc, sum-crossed, some-either, Tells, itself, by-fail, not-tells, or-tells, and-tells, pick-tells, eqb-tells, leb-tells, ltb-tells, lt-or-le, all-tells, stands-tells, records-length}
+use Rattle.sheets.specs.Laws.Tests.{sum-iff, sum-assoc, sum-crossed, some-either, Tells, itself, by-fail, not-tells, or-tells}
+use Rattle.sheets.specs.Laws.Tests.{and-tells, pick-tells, eqb-tells, leb-tells, ltb-tells, lt-or-le, all-tells, stands-tells}
+use Rattle.sheets.specs.Laws.Tests.{records-length}
 use Rattle.sheets.specs.Laws.PartnerLaws.{terms-asRead}
 
 -- ---- 3
@@ -50,10 +53,17 @@ above-places f xs = (
 )
 
 above-term : (b : Bool) (n : ℕ) → Above (pick b (var n) (const n) ∷ []) ↔ (T b × (variableBound ≤ n))
-above-term true n = (λ w. (let e : var (w .0) ≡ var n = List·Memᴰ·eq-of-singleton (w .1) in (let d : w .0 ≡ n = cc in (tt, omega arith))), λ w. (n, here, w .1))
-above-term false n = (λ w. absurd (let e : var (w .0) ≡ const n = List·Memᴰ·eq-of-singleton (w .1) in let z : _≡_ {A = ℕ} 0 1 = cc in omega arith), λ w. absurd (w .0))
+above-term true n = (
+  λ w. (let e : var (w .0) ≡ var n = List·Memᴰ·eq-of-singleton (w .1) in (let d : w .0 ≡ n = cc in (tt, omega arith))),
+  λ w. (n, here, w .1),
+)
+above-term false n = (
+  λ w. absurd (let e : var (w .0) ≡ const n = List·Memᴰ·eq-of-singleton (w .1) in let z : _≡_ {A = ℕ} 0 1 = cc in omega arith),
+  λ w. absurd (w .0),
+)
 
-above-atom : {C D : Type 0} (c : Bool) (n : ℕ) (t u : Term) → Tells c C D → Above (args (pick c (concept n t) (role n t u))) ↔ (Above (t ∷ []) ⊎ (D × Above (u ∷ [])))
+above-atom : {C D : Type 0} (c : Bool) (n : ℕ) (t u : Term) → Tells c C D → Above (args (pick c (concept n t) (role n t u)))
+    ↔ (Above (t ∷ []) ⊎ (D × Above (u ∷ [])))
 above-atom true n t u h = (inl, elim [ inl a ↦ a | inr a ↦ absurd (h .fail .1 (a .0)) ])
 above-atom false n t u h = Iff·trans (above-append (t ∷ []) (u ∷ [])) (sum-iff Iff·rfl (λ a. (h .fail .0 tt, a), λ a. a .1))
 
@@ -63,22 +73,26 @@ termSound-tells w t =
     let parts = or-tells (not-tells (itself (eqb (t / 2 ^ w) 0))) (ltb-tells (t % 2 ^ w) variableBound) in
     by-fail (termSound w t) (Iff·trans (parts .fail) (Iff·symm (above-term (eqb (t / 2 ^ w) 0) (t % 2 ^ w))))
 
-answerSound-tells : (w x : ℕ) → Tells (answerSound w x) ((x < 2 ^ (w + 1)) × (¬ Above (termOf w x ∷ []))) ((2 ^ (w + 1) ≤ x) ⊎ Above (termOf w x ∷ []))
+answerSound-tells : (w x : ℕ) → Tells (answerSound w x) ((x < 2 ^ (w + 1)) × (¬ Above (termOf w x ∷ []))) ((2 ^ (w + 1) ≤ x)
+    ⊎ Above (termOf w x ∷ []))
 unfolding answerSound
 answerSound-tells w x = and-tells (ltb-tells x (2 ^ (w + 1))) (termSound-tells w x)
 
-atomSound-tells : (w x : ℕ) → Tells (atomSound w x) (¬ (AtomBitSet w x ⊎ Above (args (atomOf w x)))) (AtomBitSet w x ⊎ Above (args (atomOf w x)))
+atomSound-tells : (w x : ℕ) → Tells (atomSound w x) (¬ (AtomBitSet w x ⊎ Above (args (atomOf w x))))
+    (AtomBitSet w x ⊎ Above (args (atomOf w x)))
 unfolding atomSound atomOf
 atomSound-tells w x =
     let isConcept = eqb-tells (atomKind w x) 0 in
     let first : ℕ = atomFirst w x in
     let second : ℕ = atomSecond w x in
-    let parts = and-tells (and-tells (eqb-tells (atomZero w x) 0) (termSound-tells w first)) (pick-tells isConcept (eqb-tells second 0) (termSound-tells w second)) in
+    let parts = and-tells (and-tells (eqb-tells (atomZero w x) 0) (termSound-tells w first))
+    (pick-tells isConcept (eqb-tells second 0) (termSound-tells w second)) in
     let above = above-atom (eqb (atomKind w x) 0) (atomName w x) (termOf w first) (termOf w second) isConcept in
     by-fail (atomSound w x) (Iff·trans (parts .fail) (Iff·trans sum-crossed (sum-iff Iff·rfl (Iff·symm above))))
 
 variables-by-record : (w : ℕ) (s : List ℕ) (at : ℕ)
-    → VariableOut w s at ↔ (((x : ℕ) × (x ∈ answerRecords w s at) × Above (termOf w x ∷ [])) ⊎ ((x : ℕ) × (x ∈ atomRecords w s at) × Above (args (atomOf w x))))
+    → VariableOut w s at ↔ (((x : ℕ) × (x ∈ answerRecords w s at) × Above (termOf w x ∷ []))
+    ⊎ ((x : ℕ) × (x ∈ atomRecords w s at) × Above (args (atomOf w x))))
 unfolding queryAt
 variables-by-record w s at =
     Iff·trans (above-append (map (termOf w) (answerRecords w s at)) (places (map (atomOf w) (atomRecords w s at))))
@@ -87,8 +101,10 @@ variables-by-record w s at =
 pub questionSound-tells : (w : ℕ) (s : List ℕ) (at : ℕ) → Tells (questionSound w s at) (¬ Malformed w s at) (Malformed w s at)
 unfolding questionSound
 questionSound-tells w s at =
-    let counts = and-tells (and-tells (leb-tells (termCount s at) mostTerms) (leb-tells 1 (atomCount s at))) (leb-tells (atomCount s at) mostAtoms) in
-    let parts = and-tells (and-tells counts (all-tells (answerSound-tells w) (answerRecords w s at))) (all-tells (atomSound-tells w) (atomRecords w s at)) in
+    let counts = and-tells (and-tells (leb-tells (termCount s at) mostTerms) (leb-tells 1 (atomCount s at)))
+    (leb-tells (atomCount s at) mostAtoms) in
+    let parts = and-tells (and-tells counts (all-tells (answerSound-tells w) (answerRecords w s at)))
+    (all-tells (atomSound-tells w) (atomRecords w s at)) in
     by-fail (questionSound w s at)
     (Iff·trans (parts .fail)
     (Iff·trans sum-assoc
@@ -114,8 +130,12 @@ covered-tells : (atoms : List (Atom Term)) (t : Term) → Tells (covered atoms t
 unfolding covered
 covered-tells atoms (var v) =
     by-fail (any (sameTerm (var v)) (places atoms))
-    (Iff·trans (stands-tells sameTerm sameTerm-iff (var v) (places atoms) .fail) (λ f. (v, refl, f), λ w m. w .2 (Memᴰ·cast (sym (w .1)) m)))
-covered-tells atoms (const c) = by-fail true (λ t. absurd t, λ w. absurd (let e : const c ≡ var (w .0) = w .1 in let z : _≡_ {A = ℕ} 0 1 = cc in omega arith))
+    (Iff·trans (stands-tells sameTerm sameTerm-iff (var v) (places atoms) .fail) (
+      λ f. (v, refl, f),
+      λ w m. w .2 (Memᴰ·cast (sym (w .1)) m),
+    ))
+covered-tells atoms (const c) =
+    by-fail true (λ t. absurd t, λ w. absurd (let e : const c ≡ var (w .0) = w .1 in let z : _≡_ {A = ℕ} 0 1 = cc in omega arith))
 
 pub refuses4-iff : (q : Query) → T (refuses4 q) ↔ Meets4 q
 unfolding refuses4
@@ -152,8 +172,10 @@ unfolding repeats
 twice-repeats [] i j a l e f = absurd (none≢some e)
 twice-repeats (b ∷ rest) i zero a l e f = absurd (not-suc-le-zero l)
 twice-repeats (b ∷ rest) zero (suc j) a l e f =
-    T-or (any (sameAtom b) rest) (repeats rest) .1 (inl (stands-tells sameAtom sameAtom-iff b rest .pass .1 (Memᴰ·cast (some-inj e) (at-mem rest j f))))
-twice-repeats (b ∷ rest) (suc i) (suc j) a l e f = T-or (any (sameAtom b) rest) (repeats rest) .1 (inr (twice-repeats rest i j a (le-of-suc-le-suc l) e f))
+    T-or (any (sameAtom b) rest) (repeats rest) .1
+    (inl (stands-tells sameAtom sameAtom-iff b rest .pass .1 (Memᴰ·cast (some-inj e) (at-mem rest j f))))
+twice-repeats (b ∷ rest) (suc i) (suc j) a l e f =
+    T-or (any (sameAtom b) rest) (repeats rest) .1 (inr (twice-repeats rest i j a (le-of-suc-le-suc l) e f))
 
 pub refuses5-twice : (q : Query) → T (refuses5 q) ↔ Meets5 q
 unfolding refuses5
@@ -173,7 +195,8 @@ pub not3-iff : (w : ℕ) (s : List ℕ) → (¬ T (refuses3 w s)) ↔ ((¬ Malfo
 unfolding refuses3
 not3-iff w s =
     Iff·trans (Iff·symm (T-no (refuses3 w s)))
-    (Iff·trans (or-tells (not-tells (eqb-tells (length s) (questionLength w s 0))) (not-tells (questionSound-tells w s 0)) .fail) (λ h. (h .1, h .0), λ h. (h .1, h .0)))
+    (Iff·trans (or-tells (not-tells (eqb-tells (length s) (questionLength w s 0))) (not-tells (questionSound-tells w s 0)) .fail)
+    (λ h. (h .1, h .0), λ h. (h .1, h .0)))
 
 module _ (w : ℕ) (s : List ℕ) (at : ℕ) (sound : ¬ Malformed w s at) where
   pub counts-in-range : (termCount s at ≤ mostTerms) × (1 ≤ atomCount s at) × (atomCount s at ≤ mostAtoms)
@@ -188,13 +211,16 @@ module _ (w : ℕ) (s : List ℕ) (at : ℕ) (sound : ¬ Malformed w s at) where
       elim (lt-or-le 31 v) [ inl l ↦ absurd (sound (inr (inr (v, terms-asRead partners (queryAt w s at) .0 m, l)))) | inr l ↦ suc-le-suc l ]
 
 -- as many answer terms and atoms as the counts say
-pub query-arity : (partners : List ℕ) (w : ℕ) (s : List ℕ) (at : ℕ) → length (queryAsRead partners (queryAt w s at) .answers) ≡ termCount s at
+pub query-arity : (partners : List ℕ) (w : ℕ) (s : List ℕ) (at : ℕ) → length (queryAsRead partners (queryAt w s at) .answers)
+    ≡ termCount s at
 unfolding queryAsRead queryAt recordsFrom
 query-arity partners w s at = length-map (answerRecords w s at) (termOf w) ∙ records-length _ (termCount s at)
 
 pub query-size : (partners : List ℕ) (w : ℕ) (s : List ℕ) (at : ℕ) → length (queryAsRead partners (queryAt w s at) .atoms) ≡ atomCount s at
 unfolding queryAsRead queryAt recordsFrom
-query-size partners w s at = length-map (map (atomOf w) (atomRecords w s at)) (atomAsRead partners) ∙ length-map (atomRecords w s at) (atomOf w) ∙ records-length _ (atomCount s at)
+query-size partners w s at =
+    length-map (map (atomOf w) (atomRecords w s at)) (atomAsRead partners) ∙ length-map (atomRecords w s at) (atomOf w)
+    ∙ records-length _ (atomCount s at)
 
 pub question-arity : (partners : List ℕ) (w : ℕ) (s : List ℕ) → length (questionAsRead partners w s .answers) ≡ termCount s 0
 unfolding questionAsRead

@@ -37,12 +37,14 @@ refuses2-iff s = all-tells isRule-tells (ruleRecords s) .fail
 -- ---- where 2 is not met, every record says a rule
 
 -- what is said where a test passes, on a list that passes it
-guarded-all : {X Y : Type 0} (p : X → Bool) (f : X → Y) (xs : List X) → T (all p xs) → flatMap (λ x. toList (guard (p x) (f x))) xs ≡ map f xs
+guarded-all : {X Y : Type 0} (p : X → Bool) (f : X → Y) (xs : List X) → T (all p xs) → flatMap (λ x. toList (guard (p x) (f x))) xs
+    ≡ map f xs
 unfolding all toList flatMap
 guarded-all p f [] h = refl
 guarded-all p f (x ∷ xs) h = let (now, later) = T-and (p x) (all p xs) .0 h in go (p x) now (guarded-all p f xs later)
   where
-    go : (b : Bool) → T b → flatMap (λ x. toList (guard (p x) (f x))) xs ≡ map f xs → toList (guard b (f x)) ++ flatMap (λ x. toList (guard (p x) (f x))) xs ≡ f x ∷ map f xs
+    go : (b : Bool) → T b → flatMap (λ x. toList (guard (p x) (f x))) xs ≡ map f xs
+        → toList (guard b (f x)) ++ flatMap (λ x. toList (guard (p x) (f x))) xs ≡ f x ∷ map f xs
     go true t e = ap (λ l. f x ∷ l) e
     go false t e = absurd t
 

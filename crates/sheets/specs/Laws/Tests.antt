@@ -74,7 +74,8 @@ or-tells {a = false} h k = record {
   fail = (λ t. (h .fail .0 tt, k .fail .0 t), λ w. k .fail .1 (w .1));
 }
 
-pub pick-tells : {c a b : Bool} {C D P N Q M : Type 0} → Tells c C D → Tells a P N → Tells b Q M → Tells (pick c a b) ((C × P) ⊎ (D × Q)) ((C × N) ⊎ (D × M))
+pub pick-tells : {c a b : Bool} {C D P N Q M : Type 0} → Tells c C D → Tells a P N → Tells b Q M
+    → Tells (pick c a b) ((C × P) ⊎ (D × Q)) ((C × N) ⊎ (D × M))
 pick-tells {c = true} c h k = record {
   pass = (λ t. inl (c .pass .0 tt, h .pass .0 t), elim [ inl w ↦ h .pass .1 (w .1) | inr w ↦ absurd (c .fail .1 (w .0)) ]);
   fail = (λ t. inl (c .pass .0 tt, h .fail .0 t), elim [ inl w ↦ h .fail .1 (w .1) | inr w ↦ absurd (c .fail .1 (w .0)) ]);
@@ -101,7 +102,8 @@ pub ltb-tells : (m n : ℕ) → Tells (ltb m n) (m < n) (n ≤ m)
 ltb-tells m n = in-words (leb-tells (suc m) n) (λ l. l, λ l. l) (λ l. omega arith, λ l. omega arith)
 
 pub lt-or-le : (m n : ℕ) → (m < n) ⊎ (n ≤ m)
-lt-or-le m n = elim (either (ltb m n)) [ inl t ↦ inl (ltb-tells m n .pass .0 t) | inr f ↦ inr (ltb-tells m n .fail .0 (T-no (ltb m n) .1 f)) ]
+lt-or-le m n =
+    elim (either (ltb m n)) [ inl t ↦ inl (ltb-tells m n .pass .0 t) | inr f ↦ inr (ltb-tells m n .fail .0 (T-no (ltb m n) .1 f)) ]
 
 -- ---- on lists
 
@@ -126,11 +128,13 @@ module _ {X : Type 0} {p : X → Bool} {P N : X → Type 0} (tells : (x : X) →
   }
 
 -- a search for x finds it exactly where x stands in the list
-pub stands-tells : {X : Type 0} (same : X → X → Bool) → ((x y : X) → T (same x y) ↔ (x ≡ y)) → (x : X) (xs : List X) → Tells (any (same x) xs) (x ∈ xs) (¬ (x ∈ xs))
+pub stands-tells : {X : Type 0} (same : X → X → Bool) → ((x y : X) → T (same x y) ↔ (x ≡ y)) → (x : X) (xs : List X)
+    → Tells (any (same x) xs) (x ∈ xs) (¬ (x ∈ xs))
 stands-tells same same-iff x xs = by-pass (any (same x) xs) (any-same same same-iff x xs)
 
 -- an element of which one of two holds
-pub some-either : {X : Type 0} {P Q : X → Type 0} (xs : List X) → ((x : X) × (x ∈ xs) × (P x ⊎ Q x)) ↔ (((x : X) × (x ∈ xs) × P x) ⊎ ((x : X) × (x ∈ xs) × Q x))
+pub some-either : {X : Type 0} {P Q : X → Type 0} (xs : List X) → ((x : X) × (x ∈ xs) × (P x ⊎ Q x))
+    ↔ (((x : X) × (x ∈ xs) × P x) ⊎ ((x : X) × (x ∈ xs) × Q x))
 some-either xs = (
   λ w. elim (w .2) [ inl p ↦ inl (w .0, w .1, p) | inr q ↦ inr (w .0, w .1, q) ],
   elim [ inl w ↦ (w .0, w .1, inl (w .2)) | inr w ↦ (w .0, w .1, inr (w .2)) ],
@@ -147,7 +151,8 @@ numbers-found start (suc n) i (List·Memᴰ·tail m) = let r = numbers-found (su
 numbers-of : (start n i : ℕ) → start ≤ i → i < start + n → i ∈ numbers start n
 unfolding numbers
 numbers-of start zero i h k = absurd (omega arith)
-numbers-of start (suc n) i h k = elim (eq-or-lt-of-le h) [ inl e ↦ List·Memᴰ·head (sym e) | inr l ↦ List·Memᴰ·tail (numbers-of (suc start) n i l (omega arith)) ]
+numbers-of start (suc n) i h k =
+    elim (eq-or-lt-of-le h) [ inl e ↦ List·Memᴰ·head (sym e) | inr l ↦ List·Memᴰ·tail (numbers-of (suc start) n i l (omega arith)) ]
 
 pub numbers-iff : (n i : ℕ) → (i ∈ numbers 0 n) ↔ (i < n)
 numbers-iff n i = (λ m. (let b = numbers-found 0 n i m in omega arith), λ l. numbers-of 0 n i (omega arith) (omega arith))
@@ -159,8 +164,8 @@ length-numbers start (suc n) = ap suc (length-numbers (suc start) n)
 
 -- the records read at each of n places
 
-pub record-at : {X : Type 0} (f : ℕ → X) (n : ℕ) (x : X) → (x ∈ map f (numbers 0 n)) ↔ ((i : ℕ) × (i < n) × (f i ≡ x))
-record-at f n x = (
+pub mem-numbered : {X : Type 0} (f : ℕ → X) (n : ℕ) (x : X) → (x ∈ map f (numbers 0 n)) ↔ ((i : ℕ) × (i < n) × (f i ≡ x))
+mem-numbered f n x = (
   λ m. let (i, k, e) = Memᴰ·of-map f (numbers 0 n) m in (i, numbers-iff n i .0 k, e),
   λ w. Memᴰ·cast (sym (w .2)) (Memᴰ·map f (numbers-iff n (w .0) .1 (w .1))),
 )

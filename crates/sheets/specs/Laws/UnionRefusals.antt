@@ -16,8 +16,10 @@ use Rattle.sheets.specs.Format.{termCount, memberCount, memberStart, que
 use Rattle.sheets.specs.Partners.{memberAsRead}
 use Rattle.sheets.specs.Reading.{unionAsRead}
 use Rattle.sheets.specs.Tests.{refuses4, refuses5, memberSound, refuses6}
-use Rattle.sheets.specs.Laws.Tests.{sum-iff, sum-assoc, Tells, in-words, by-pass, not-tells, or-tells, and-tells, eqb-tells, leb-tells, all-tells, numbers-iff, record-at}
-use Rattle.sheets.specs.Laws.QuestionRefusals.{questionSound-tells, refuses4-iff, not4-safe, refuses5-twice, not5-unrepeated, query-arity}
+use Rattle.sheets.specs.Laws.Tests.{sum-iff, sum-assoc, Tells, in-words, by-pass, not-tells, or-tells, and-tells, eqb-tells}
+use Rattle.sheets.specs.Laws.Tests.{leb-tells, all-tells, numbers-iff, mem-numbered}
+use Rattle.sheets.specs.Laws.QuestionRefusals.{questionSound-tells, refuses4-iff, not4-safe, refuses5-twice, not5-unrepeated}
+use Rattle.sheets.specs.Laws.QuestionRefusals.{query-arity}
 use Rattle.sheets.specs.Conditions.{Malformed, Meets4, Meets5, memberQuestion, MemberUnsound, Meets6}
 
 -- ---- where members begin
@@ -54,14 +56,16 @@ Not6 partners w arity s =
     × ((j : ℕ) → j < memberCount s → MemberSound partners w arity s j)
 
 module _ (partners : List ℕ) (w arity : ℕ) (s : List ℕ) where
-  memberSound-tells : (j : ℕ) → Tells (memberSound partners w arity s j) (MemberSound partners w arity s j) (MemberUnsound partners w arity s j)
+  memberSound-tells : (j : ℕ) → Tells (memberSound partners w arity s j) (MemberSound partners w arity s j)
+      (MemberUnsound partners w arity s j)
   unfolding memberSound
   memberSound-tells j =
       let q : Query = memberQuestion partners w s j in
       let meets4 = by-pass (refuses4 q) (refuses4-iff q) in
       let meets5 = by-pass (refuses5 q) (refuses5-twice q) in
       let arityIs = eqb-tells (termCount s (questionStart w s j)) arity in
-      in-words (and-tells (and-tells (and-tells (questionSound-tells w s (questionStart w s j)) (not-tells meets4)) (not-tells meets5)) arityIs)
+      in-words (and-tells (and-tells (and-tells (questionSound-tells w s (questionStart w s j)) (not-tells meets4)) (not-tells meets5))
+      arityIs)
       (λ ok. (ok .0 .0 .0, ok .0 .0 .1, ok .0 .1, ok .1), λ ok. (((ok .0, ok .1), ok .2), ok .3)) (Iff·trans sum-assoc sum-assoc)
 
   refuses6-tells : Tells (refuses6 partners w arity s) (Meets6 partners w arity s) (Not6 partners w arity s)
@@ -77,7 +81,8 @@ module _ (partners : List ℕ) (w arity : ℕ) (s : List ℕ) where
       )
     where
       by-number : {P : ℕ → Type 0} → ((j : ℕ) × (j ∈ numbers 0 (memberCount s)) × P j) ↔ ((j : ℕ) × (j < memberCount s) × P j)
-      by-number = (λ v. (v .0, numbers-iff (memberCount s) (v .0) .0 (v .1), v .2), λ v. (v .0, numbers-iff (memberCount s) (v .0) .1 (v .1), v .2))
+      by-number =
+          (λ v. (v .0, numbers-iff (memberCount s) (v .0) .0 (v .1), v .2), λ v. (v .0, numbers-iff (memberCount s) (v .0) .1 (v .1), v .2))
 
   pub refuses6-iff : T (refuses6 partners w arity s) ↔ Meets6 partners w arity s
   refuses6-iff = refuses6-tells .pass
@@ -94,14 +99,16 @@ module _ (partners : List ℕ) (w arity : ℕ) (s : List ℕ) where
 -- ---- what a union that does not meet 6 is good for
 
 -- every member ends within the sheet
-pub member-fits : (partners : List ℕ) (w arity : ℕ) (s : List ℕ) → ¬ T (refuses6 partners w arity s) → (j : ℕ) → j < memberCount s → memberStart w s (suc j) ≤ length s
+pub member-fits : (partners : List ℕ) (w arity : ℕ) (s : List ℕ) → ¬ T (refuses6 partners w arity s) → (j : ℕ) → j < memberCount s
+    → memberStart w s (suc j) ≤ length s
 member-fits partners w arity s not6 j l =
     let ends = not6-iff partners w arity s .0 not6 .2 in
     let rises = start-rises w s (suc j) (memberCount s) l in
     omega arith
 
 -- every member is sound for a question of that arity
-sound-member : (partners : List ℕ) (w arity : ℕ) (s : List ℕ) (j : ℕ) → MemberSound partners w arity s j → SoundQuery arity (memberAsRead partners (memberAt w s j) .query)
+sound-member : (partners : List ℕ) (w arity : ℕ) (s : List ℕ) (j : ℕ) → MemberSound partners w arity s j
+    → SoundQuery arity (memberAsRead partners (memberAt w s j) .query)
 unfolding memberAsRead memberAt
 sound-member partners w arity s j ok =
     let q : Query = memberQuestion partners w s j in
@@ -111,10 +118,11 @@ sound-member partners w arity s j ok =
       arity-is = query-arity partners w s (questionStart w s j) ∙ ok .3;
     }
 
-pub sound-union : (partners : List ℕ) (w : ℕ) (s : List ℕ) (q : Query) → ¬ T (refuses6 partners w (length (q .answers)) s) → SoundUnion q (unionAsRead partners w s)
+pub sound-union : (partners : List ℕ) (w : ℕ) (s : List ℕ) (q : Query) → ¬ T (refuses6 partners w (length (q .answers)) s)
+    → SoundUnion q (unionAsRead partners w s)
 unfolding unionAsRead unionOf
 sound-union partners w s q not6 m k =
     let (m′, k′, e) = Memᴰ·of-map (memberAsRead partners) (unionOf w s) k in
-    let (j, l, e′) = record-at (memberAt w s) (memberCount s) m′ .0 k′ in
+    let (j, l, e′) = mem-numbered (memberAt w s) (memberCount s) m′ .0 k′ in
     subst (λ (n : Member). SoundQuery (length (q .answers)) (n .query)) (ap (memberAsRead partners) e′ ∙ e)
     (sound-member partners w (length (q .answers)) s j (not6-iff partners w (length (q .answers)) s .0 not6 .3 j l))

@@ -28,8 +28,8 @@ use Rattle.answering.specs.Drawing.{Outcome, outcomeBy, outcome, theAnswers, by
 use Rattle.takwishan.specs.Files.{rulesLimit, questionLimit, unionLimit, factsLimit}
 
 -- what is read of a file: its bytes up to its end, or to one beyond the limit
-abbrev pub firstOf : ℕ → List ℕ → List ℕ
-firstOf limit file = take (suc limit) file
+abbrev pub cutTo : ℕ → List ℕ → List ℕ
+cutTo limit file = take (suc limit) file
 
 -- ---- over its limit
 
@@ -80,7 +80,8 @@ ofBytes question union = firstRefusal ((6, refuses6 partners01 sheetWidth (termC
 
 abbrev ofUnion : List ℕ → List ℕ → List ℕ → Option ℕ
 ofUnion rules question union =
-    check (rulesAsRead partners01 sheetWidth rules) (questionAsRead partners01 sheetWidth question) (unionAsRead partners01 sheetWidth union)
+    check (rulesAsRead partners01 sheetWidth rules) (questionAsRead partners01 sheetWidth question)
+    (unionAsRead partners01 sheetWidth union)
 
 abbrev ofFacts : List ℕ → Option ℕ
 ofFacts facts = firstRefusal (factRefusals sheetWidth facts)
@@ -101,7 +102,8 @@ module _ (room : ℕ) where
   is-by r q u f =
       let sheets : Sheets = record { rules = r; question = q; union = u; facts = f } in
       ap (λ (o : Option ℕ). outcomeBy room (theAnswers u f) (orElse o (ofList q u f)))
-      (drawing-first partners01 sheetWidth sheets ∙ ap (λ (o : Option ℕ). orElse o (ofFacts f)) (checking-first partners01 sheetWidth sheets))
+      (drawing-first partners01 sheetWidth sheets
+      ∙ ap (λ (o : Option ℕ). orElse o (ofFacts f)) (checking-first partners01 sheetWidth sheets))
 
   -- ---- what a sheet over its limit comes to: nothing that is looked at after it counts
 
@@ -161,21 +163,21 @@ module _ (room : ℕ) where
 
   -- one file read as far as one byte beyond its limit, if that changes nothing where it is longer
   one-cut : (limit : ℕ) (s : List ℕ) (call : List ℕ → Outcome)
-      → (limit < length (firstOf limit s) → limit < length s → call (firstOf limit s) ≡ call s) → call (firstOf limit s) ≡ call s
+      → (limit < length (cutTo limit s) → limit < length s → call (cutTo limit s) ≡ call s) → call (cutTo limit s) ≡ call s
   one-cut limit s call same =
       elim (lt-or-le limit (length s)) [
-        | inl l ↦ same (let e : length (firstOf limit s) ≡ suc limit = length-take-le (suc limit) s (omega arith) in omega arith) l
+        | inl l ↦ same (let e : length (cutTo limit s) ≡ suc limit = length-take-le (suc limit) s (omega arith) in omega arith) l
         | inr l ↦ ap call (take-all (suc limit) s (omega arith))
       ]
 
   pub cut-same : (r q u f : List ℕ)
-      → outcome (firstOf rulesLimit r) (firstOf questionLimit q) (firstOf unionLimit u) (firstOf factsLimit f) room ≡ outcome r q u f room
+      → outcome (cutTo rulesLimit r) (cutTo questionLimit q) (cutTo unionLimit u) (cutTo factsLimit f) room ≡ outcome r q u f room
   cut-same r q u f =
-      let q′ : List ℕ = firstOf questionLimit q in
-      let u′ : List ℕ = firstOf unionLimit u in
-      let f′ : List ℕ = firstOf factsLimit f in
+      let q′ : List ℕ = cutTo questionLimit q in
+      let u′ : List ℕ = cutTo unionLimit u in
+      let f′ : List ℕ = cutTo factsLimit f in
       one-cut rulesLimit r (λ s. outcome s q′ u′ f′ room)
-      (λ l′ l. over-rules (firstOf rulesLimit r) q′ u′ f′ l′ ∙ sym (over-rules r q′ u′ f′ l))
+      (λ l′ l. over-rules (cutTo rulesLimit r) q′ u′ f′ l′ ∙ sym (over-rules r q′ u′ f′ l))
       ∙ one-cut questionLimit q (λ s. outcome r s u′ f′ room) (λ l′ l. over-question r q′ u′ f′ l′ ∙ sym (over-question r q u′ f′ l))
       ∙ one-cut unionLimit u (λ s. outcome r q s f′ room) (λ l′ l. over-union r q u′ f′ l′ ∙ sym (over-union r q u f′ l))
       ∙ one-cut factsLimit f (λ s. outcome r q u s room) (λ l′ l. over-facts r q u f′ l′ ∙ sym (over-facts r q u f l))

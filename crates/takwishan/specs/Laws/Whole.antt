@@ -10,11 +10,11 @@ use Rattle.answering.specs.Drawing.{Outcome}
 use Rattle.report.specs.Report.{report}
 use Rattle.report.specs.Text.{listRoom, textFor}
 use Rattle.takwishan.specs.Files.{rulesLimit, questionLimit, unionLimit, factsLimit, HoldsFile, Filled, TextOf}
-use Rattle.takwishan.specs.Laws.Cut.{firstOf, cut-same}
+use Rattle.takwishan.specs.Laws.Cut.{cutTo, cut-same}
 
 -- one byte beyond each limit is enough
 pub read-enough : (rules question union facts : List ℕ)
-    → textFor (firstOf rulesLimit rules) (firstOf questionLimit question) (firstOf unionLimit union) (firstOf factsLimit facts)
+    → textFor (cutTo rulesLimit rules) (cutTo questionLimit question) (cutTo unionLimit union) (cutTo factsLimit facts)
     ≡ textFor rules question union facts
 unfolding textFor
 read-enough rules question union facts =
@@ -22,8 +22,9 @@ read-enough rules question union facts =
     (ap (λ n. n / 16) (getD-take (suc questionLimit) question 0 0 (omega arith)))
 
 -- what was read of a file into a buffer with room for one byte beyond the limit
-read-first : (limit : ℕ) (file buffer : List ℕ) (count : ℕ) → length buffer ≡ suc limit → count ≤ length buffer → HoldsFile file buffer count
-    → take count buffer ≡ firstOf limit file
+read-first : (limit : ℕ) (file buffer : List ℕ) (count : ℕ) → length buffer ≡ suc limit → count ≤ length buffer
+    → HoldsFile file buffer count
+    → take count buffer ≡ cutTo limit file
 read-first limit file buffer count room within read =
     read .bytes
     ∙ elim (read .ended) [
@@ -41,7 +42,7 @@ whole-files rules question union facts text r q u f h e = record {
       ∙ ap₂ (λ x y. textFor x y (take u union) (take f facts))
       (read-first rulesLimit rules′ rules r (h .rooms .ofRules) (h .ofRules .0) hr)
       (read-first questionLimit question′ question q (h .rooms .ofQuestion) (h .ofQuestion .0) hq)
-      ∙ ap₂ (λ x y. textFor (firstOf rulesLimit rules′) (firstOf questionLimit question′) x y)
+      ∙ ap₂ (λ x y. textFor (cutTo rulesLimit rules′) (cutTo questionLimit question′) x y)
       (read-first unionLimit union′ union u (h .rooms .ofUnion) (h .ofUnion .0) hu)
       (read-first factsLimit facts′ facts f (h .rooms .ofFacts) (h .ofFacts .0) hf)
       ∙ read-enough rules′ question′ union′ facts′;

@@ -89,35 +89,43 @@ insertTuple-inserts = (
         pick-false (before t u) _ _ (λ b. before-irreflexive u (subst (λ s. Before s u) e b))
         ∙ pick-false (before u t) _ _ (λ b. before-irreflexive u (subst (λ s. Before u s) e b))
         )) (there e)
-    | inr (inr b) ↦ subst P (sym (pick-false (before t u) _ _ (λ c. before-irreflexive t (before-transitive t u t c b)) ∙ pick-true (before u t) _ _ b)) (later b)
+    | inr (inr b) ↦ subst P (sym (pick-false (before t u) _ _ (λ c. before-irreflexive t (before-transitive t u t c b))
+        ∙ pick-true (before u t) _ _ b)) (later b)
   ],
 )
 
 -- ---- the laws
 
 -- the answers are the first reader's
-pub answers-iff : (facts : List Fact) (union : UCQ) → ((m : Member) → m ∈ union → Safe (m .query)) → (t : List ℕ) → (t ∈ answersOf facts union) ↔ FirstReader union facts t
+pub answers-iff : (facts : List Fact) (union : UCQ) → ((m : Member) → m ∈ union → Safe (m .query)) → (t : List ℕ)
+    → (t ∈ answersOf facts union) ↔ FirstReader union facts t
 unfolding answersOf
 answers-iff facts union safe t =
     let find : Member → List (List ℕ) = λ m. found facts (m .query) in (
-      λ a. (let r = flatMap-found find union (inserted-mem Before insertTuple insertTuple-inserts (flatMap find union) a) in (r .0, r .1, found-iff facts (r .0 .query) (safe (r .0) (r .1)) t .0 (r .2))),
-      λ r. mem-inserted Before insertTuple insertTuple-inserts (flatMap-of find (r .1) (found-iff facts (r .0 .query) (safe (r .0) (r .1)) t .1 (r .2))),
+      λ a. (let r = flatMap-found find union (inserted-mem Before insertTuple insertTuple-inserts (flatMap find union) a) in
+          (r .0, r .1, found-iff facts (r .0 .query) (safe (r .0) (r .1)) t .0 (r .2))),
+      λ r. mem-inserted Before insertTuple insertTuple-inserts
+          (flatMap-of find (r .1) (found-iff facts (r .0 .query) (safe (r .0) (r .1)) t .1 (r .2))),
     )
 
 -- 01: "ordered by first object, then the next, each tuple once"
 pub answers-ascending : (facts : List Fact) (union : UCQ) → Ascending Before (answersOf facts union)
 unfolding answersOf
-answers-ascending facts union = inserted-ascending Before insertTuple insertTuple-inserts before-transitive (flatMap (λ m. found facts (m .query)) union)
+answers-ascending facts union =
+    inserted-ascending Before insertTuple insertTuple-inserts before-transitive (flatMap (λ m. found facts (m .query)) union)
 
 -- more facts, no fewer answers
-more-facts : {facts facts′ : List Fact} → ((f : Fact) → f ∈ facts → f ∈ facts′) → (union : UCQ) (t : List ℕ) → FirstReader union facts t → FirstReader union facts′ t
+more-facts : {facts facts′ : List Fact} → ((f : Fact) → f ∈ facts → f ∈ facts′) → (union : UCQ) (t : List ℕ) → FirstReader union facts t
+    → FirstReader union facts′ t
 more-facts {facts} {facts′} g union t r =
     (r .0, r .1, answer-more (Round [] facts zero) (Round [] facts′ zero) (λ a w. (w .0, g (w .0) (w .1), w .2)) (r .0 .query) t (r .2))
 
 -- nothing depends on the order or the repetition of the facts
-pub answers-same-facts : (facts facts′ : List Fact) (union : UCQ) → ((m : Member) → m ∈ union → Safe (m .query)) → ((f : Fact) → (f ∈ facts) ↔ (f ∈ facts′)) → answersOf facts union ≡ answersOf facts′ union
+pub answers-same-facts : (facts facts′ : List Fact) (union : UCQ) → ((m : Member) → m ∈ union → Safe (m .query))
+    → ((f : Fact) → (f ∈ facts) ↔ (f ∈ facts′)) → answersOf facts union ≡ answersOf facts′ union
 answers-same-facts facts facts′ union safe g =
-    ascending-unique Before before-irreflexive before-transitive (answersOf facts union) (answersOf facts′ union) (answers-ascending facts union) (answers-ascending facts′ union)
+    ascending-unique Before before-irreflexive before-transitive (answersOf facts union) (answersOf facts′ union)
+    (answers-ascending facts union) (answers-ascending facts′ union)
     (λ t. (
       λ m. answers-iff facts′ union safe t .1 (more-facts (λ f. g f .0) union t (answers-iff facts union safe t .0 m)),
       λ m. answers-iff facts union safe t .1 (more-facts (λ f. g f .1) union t (answers-iff facts′ union safe t .0 m)),

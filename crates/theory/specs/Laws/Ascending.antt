@@ -23,7 +23,10 @@ module _ {X : Type 0} (Less : X → X → Type 0) where
       heads-equal x y xs ys a b m n =
           elim (List·Memᴰ·cases-cons m) [
             | inl e ↦ e
-            | inr k ↦ elim (List·Memᴰ·cases-cons n) [ inl e ↦ sym e | inr l ↦ absurd (irreflexive x (transitive x y x (a .0 y l) (b .0 x k))) ]
+            | inr k ↦ elim (List·Memᴰ·cases-cons n) [
+              | inl e ↦ sym e
+              | inr l ↦ absurd (irreflexive x (transitive x y x (a .0 y l) (b .0 x k)))
+            ]
           ]
 
       tail-mem : (x y : X) (xs ys : List X) → Ascending (x ∷ xs) → x ≡ y → ((z : X) → z ∈ x ∷ xs → z ∈ y ∷ ys) → (z : X) → z ∈ xs → z ∈ ys
@@ -47,7 +50,8 @@ module _ {X : Type 0} (Less : X → X → Type 0) where
   abbrev pub Inserts : (X → List X → List X) → Type 1
   Inserts insert =
       ((x : X) → insert x [] ≡ x ∷ [])
-      × ((x y : X) (ys : List X) (P : List X → Type 0) → (Less x y → P (x ∷ y ∷ ys)) → (Less y x → P (y ∷ insert x ys)) → (x ≡ y → P (y ∷ ys)) → P (insert x (y ∷ ys)))
+      × ((x y : X) (ys : List X) (P : List X → Type 0) → (Less x y → P (x ∷ y ∷ ys)) → (Less y x → P (y ∷ insert x ys))
+      → (x ≡ y → P (y ∷ ys)) → P (insert x (y ∷ ys)))
 
   -- the list gains the element and nothing else, and stays ascending
   module _ (insert : X → List X → List X) (inserts : Inserts insert) where
@@ -78,7 +82,10 @@ module _ {X : Type 0} (Less : X → X → Type 0) where
     pub inserted-mem : (xs : List X) {z : X} → z ∈ foldr insert [] xs → z ∈ xs
     inserted-mem [] m = m
     inserted-mem (x ∷ xs) m =
-        elim (List·Memᴰ·cases-cons (insert-mem x (foldr insert [] xs) m)) [ inl e ↦ List·Memᴰ·head e | inr n ↦ List·Memᴰ·tail (inserted-mem xs n) ]
+        elim (List·Memᴰ·cases-cons (insert-mem x (foldr insert [] xs) m)) [
+          | inl e ↦ List·Memᴰ·head e
+          | inr n ↦ List·Memᴰ·tail (inserted-mem xs n)
+        ]
 
     pub mem-inserted : {xs : List X} {z : X} → z ∈ xs → z ∈ foldr insert [] xs
     mem-inserted (List·Memᴰ·head {x = x} {xs = xs} e) = mem-insert x (foldr insert [] xs) (List·Memᴰ·head e)

@@ -70,7 +70,8 @@ module _ {X : Type 0} where
           c,
           h,
           put-back (λ w j. C w j × (j ≤ k)) (y ∷ ys) i n rest′ rest at (d, less) l
-              (budget-map (λ w j. C w j × (j ≤ n)) (λ w j. C w j × (j ≤ k)) (dropAt (y ∷ ys) i) rest′ (λ w j m e. (e .0, le-trans (e .1) less)) others),
+              (budget-map (λ w j. C w j × (j ≤ n)) (λ w j. C w j × (j ≤ k)) (dropAt (y ∷ ys) i) rest′
+              (λ w j m e. (e .0, le-trans (e .1) less)) others),
         )
         | no more ↦ (suc i, z, n, k + rest′, at, d, omega arith, (k, rest′, (c, omega arith), le-refl (k + rest′), others))
       ]

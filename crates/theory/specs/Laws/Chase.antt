@@ -14,7 +14,12 @@ use Rattle.theory.specs.Laws.Syntax.{send-rename, mapAtom-after}
 
 -- where more is held, there are no fewer answers
 pub answer-more : (H H′ : Held) → ((a : Atom Thing) → H a → H′ a) → (q : Query) (tuple : List ℕ) → Answer H q tuple → Answer H′ q tuple
-answer-more H H′ more q tuple w = record { match = w .match; holds = λ a m. more (mapAtom (value (w .match)) a) (w .holds a m); sends = w .sends }
+answer-more H H′ more q tuple w = record {
+  match = w .match;
+  holds = λ a m. more (mapAtom (value (w .match)) a) (w .holds a m);
+  sends =
+      w .sends;
+}
 
 -- what holds of a query's image under a map of terms holds of the query
 pub answer-through : (H : Held) (p q : Query) (f : Term → Term) (h : ℕ → Thing) (tuple : List ℕ)
@@ -29,7 +34,8 @@ answer-through H p q f h tuple into on w same = record {
 -- an answer of a query is one of every query that is alike to it
 pub alike-answer : (H : Held) (p q : Query) (tuple : List ℕ) → Alike p q → Answer H q tuple → Answer H p tuple
 alike-answer H p q tuple r w =
-    answer-through H p q (rename (r .to)) (λ v. w .match (r .to v)) tuple (r .into) (r .on-answers) w (send-rename object (w .match) (r .to))
+    answer-through H p q (rename (r .to)) (λ v. w .match (r .to v)) tuple (r .into) (r .on-answers) w
+    (send-rename object (w .match) (r .to))
 
 -- what is held in a round is held in every later one
 module _ (rules : List Rule) (facts : List Fact) where
@@ -41,5 +47,6 @@ module _ (rules : List Rule) (facts : List Fact) where
         | inr k ↦ inl (round-later n m (le-of-suc-le-suc k) a h)
       ]
 
-  pub answer-later : (n m : ℕ) (q : Query) (tuple : List ℕ) → n ≤ m → Answer (Round rules facts n) q tuple → Answer (Round rules facts m) q tuple
+  pub answer-later : (n m : ℕ) (q : Query) (tuple : List ℕ) → n ≤ m → Answer (Round rules facts n) q tuple
+      → Answer (Round rules facts m) q tuple
   answer-later n m q tuple l = answer-more (Round rules facts n) (Round rules facts m) (round-later n m l) q tuple

@@ -10,20 +10,24 @@ use mathlib.Core.Option.{some}
 use mathlib.Core.List.{List, map, List·Memᴰ·not-nil, Memᴰ·cast, Memᴰ·map, Memᴰ·of-map}
 use lib.ListN.{length, set}
 use Rattle.theory.specs.Lists.{_∈_, At, Unrepeated}
-use Rattle.theory.specs.Syntax.{Term, var, Atom, Rule, Query, Member, UCQ, Fact, Thing, object, null, mapAtom, value, subst-term, rename}
+use Rattle.theory.specs.Syntax.{Term, var, Atom, Rule, Query, Member, UCQ, Fact, Thing, object, null, mapAtom, value, subst-term}
+use Rattle.theory.specs.Syntax.{rename}
 use Rattle.theory.specs.Chase.{Round, Answer, FirstReader}
 use Rattle.theory.specs.Rewriting.{substitute, changeAtom, mergeStep, StepTo}
 use Rattle.theory.specs.Renaming.{Alike}
 use Rattle.theory.specs.Union.{Accepted, noStep}
-use Rattle.theory.specs.Laws.Lists.{mem-at, at-mem, at-equal, at-unique, map-after, map-agree, set-at, dropAt, mem-dropAt, dropAt-mem, dropAt-set}
-use Rattle.theory.specs.Laws.Syntax.{mapAtom-id, mapAtom-agree, keepOnce-mem, terms-atoms, terms-answers, map-args, substitute-mem, mapAtom-after}
+use Rattle.theory.specs.Laws.Lists.{mem-at, at-mem, at-equal, at-unique, map-after, map-agree, set-at, dropAt, mem-dropAt, dropAt-mem}
+use Rattle.theory.specs.Laws.Lists.{dropAt-set}
+use Rattle.theory.specs.Laws.Syntax.{mapAtom-id, mapAtom-agree, keepOnce-mem, terms-atoms, terms-answers, map-args, substitute-mem}
+use Rattle.theory.specs.Laws.Syntax.{mapAtom-after}
 use Rattle.theory.specs.Laws.Unbound.{bound-elsewhere}
 use Rattle.theory.specs.Laws.Unifier.{through-term, Unifies, unifies-equal, unifies-factors}
 use Rattle.theory.specs.Laws.Steps.{ruleStep-iff, mergeStep-either}
 use Rattle.theory.specs.Laws.Equivalence.{undo, term-undone, atom-undone}
 use Rattle.theory.specs.Laws.Rules.{concludes-rewritten, Rewritten, AtBound, Makes, makes-unique}
 use Rattle.theory.specs.Laws.Birth.{birth}
-use Rattle.theory.specs.Laws.Budget.{Budget, Greatest, greatest-or-empty, budget-more, budget-map, budget-all, budget-at, budget-transfer, put-back}
+use Rattle.theory.specs.Laws.Budget.{Budget, Greatest, greatest-or-empty, budget-more, budget-map, budget-all, budget-at}
+use Rattle.theory.specs.Laws.Budget.{budget-transfer, put-back}
 
 module _ (rules : List Rule) (facts : List Fact) where
   -- the image of an atom under h holds in round n
@@ -69,16 +73,19 @@ module _ (rules : List Rule) (facts : List Fact) where
 
   -- ---- one trade
 
-  module _ (union : UCQ) (q₀ : Query) (accepted : Accepted rules q₀ union) (distinct : (m : Member) → m ∈ union → Unrepeated (m .query .atoms)) (tuple : List ℕ) where
+  module _ (union : UCQ) (q₀ : Query) (accepted : Accepted rules q₀ union) (distinct : (m : Member) → m ∈ union
+      → Unrepeated (m .query .atoms)) (tuple : List ℕ) where
     -- some member is matched at this cost
     abbrev MemberMatched : ℕ → Type 0
     MemberMatched total = (m : Member) × (m ∈ union) × Matched (m .query) tuple total
 
     more : (n k : ℕ) → n ≤ k → MemberMatched n → MemberMatched k
-    more n k l (m, i, w) = (m, i, record { match = w .match; sends = w .sends; cost = budget-more (HoldsIn (w .match)) (m .query .atoms) n k l (w .cost) })
+    more n k l (m, i, w) =
+        (m, i, record { match = w .match; sends = w .sends; cost = budget-more (HoldsIn (w .match)) (m .query .atoms) n k l (w .cost) })
 
     -- the result of a step from a member, with a match and a budget for what it comes from
-    through-step : (m : Member) (r : Query) (total : ℕ) (h : ℕ → Thing) (xs : List (Atom Term)) (s : Term → Term) → m ∈ union → StepTo rules (m .query) r
+    through-step : (m : Member) (r : Query) (total : ℕ) (h : ℕ → Thing) (xs : List (Atom Term)) (s : Term → Term) → m ∈ union
+        → StepTo rules (m .query) r
         → map (value h) (r .answers) ≡ map object tuple
         → ((b : Atom Term) → b ∈ r .atoms → (x : Atom Term) × (x ∈ xs) × (mapAtom s x ≡ b))
         → Budget (λ x n. HoldsIn h (mapAtom s x) n) xs total → MemberMatched total
@@ -89,14 +96,16 @@ module _ (rules : List Rule) (facts : List Fact) where
     module _ (m : Member) (i : m ∈ union) (h : ℕ → Thing) (sends : map (value h) (m .query .answers) ≡ map object tuple) where
       -- the rule that concluded the atom's image rewrites the atom: what it makes holds a round earlier
       by-rule : (l k : ℕ) (ρ : Rule) (a : Atom Term) (n rest : ℕ) → At (m .query .atoms) l a → At rules k ρ
-          → Rewritten (m .query) (Round rules facts n) ρ a h → Budget (HoldsIn h) (dropAt (m .query .atoms) l) rest → MemberMatched (n + rest)
+          → Rewritten (m .query) (Round rules facts n) ρ a h → Budget (HoldsIn h) (dropAt (m .query .atoms) l) rest
+          → MemberMatched (n + rest)
       unfolding changeAtom
       by-rule l k ρ a n rest at atk (b, h′, e, held, agree) budget =
           through-step m (changeAtom (m .query) l b) (n + rest) h′ (set (m .query .atoms) l b) (λ t. t) i
           (inl (l, k, ruleStep-iff rules (m .query) l k (changeAtom (m .query) l b) .1 (ρ, a, b, atk, at, e, refl)))
           (map-agree (value h′) (value h) (m .query .answers) (λ t j. agree t (terms-answers (m .query) j)) ∙ sends)
           (λ c j. (c, keepOnce-mem (set (m .query .atoms) l b) j, mapAtom-id c))
-          (put-back (λ x j. HoldsIn h′ (mapAtom (λ t. t) x) j) (set (m .query .atoms) l b) l n rest (n + rest) (set-at (m .query .atoms) l b at)
+          (put-back (λ x j. HoldsIn h′ (mapAtom (λ t. t) x) j) (set (m .query .atoms) l b) l n rest (n + rest)
+          (set-at (m .query .atoms) l b at)
           (same b n held) (le-refl (n + rest))
           (subst (λ ys. Budget (λ x j. HoldsIn h′ (mapAtom (λ t. t) x) j) ys rest) (sym (dropAt-set (m .query .atoms) l b))
           (budget-map (HoldsIn h) (λ x j. HoldsIn h′ (mapAtom (λ t. t) x) j) (dropAt (m .query .atoms) l) rest
@@ -129,7 +138,8 @@ module _ (rules : List Rule) (facts : List Fact) where
           sent : map (value h) (substitute σ (m .query) .answers) ≡ map (value h) (m .query .answers)
           sent = map-after (value h) (subst-term σ) (value h) (m .query .answers) (λ t n. kept t)
 
-          from : (c : Atom Term) → c ∈ substitute σ (m .query) .atoms → (x : Atom Term) × (x ∈ dropAt (m .query .atoms) l) × (mapAtom (subst-term σ) x ≡ c)
+          from : (c : Atom Term) → c ∈ substitute σ (m .query) .atoms → (x : Atom Term) × (x ∈ dropAt (m .query .atoms) l)
+              × (mapAtom (subst-term σ) x ≡ c)
           from c n = let (x, k, e) = substitute-mem σ (m .query) n in let (w, atw) = mem-at k in elim (ℕ-discrete w l) [
             | yes f ↦ (
               b,
@@ -142,8 +152,16 @@ module _ (rules : List Rule) (facts : List Fact) where
       -- the atom at l alone held one round too late
       lowered : (l : ℕ) (a : Atom Term) (k n rest : ℕ) → At (m .query .atoms) l a → HoldsIn h a k → k ≤ n
           → Budget (HoldsIn h) (dropAt (m .query .atoms) l) rest → MemberMatched (n + rest)
-      lowered l a k n rest at held le budget =
-          (m, i, record { match = h; sends = sends; cost = put-back (HoldsIn h) (m .query .atoms) l k rest (n + rest) at held (omega arith) budget })
+      lowered l a k n rest at held le budget = (
+        m,
+        i,
+        record {
+          match = h;
+          sends = sends;
+          cost =
+              put-back (HoldsIn h) (m .query .atoms) l k rest (n + rest) at held (omega arith) budget;
+        },
+      )
 
       -- an answer term's value is an object
       answer-object : (t : Term) → t ∈ m .query .answers → (o : ℕ) × (value h t ≡ object o)
@@ -155,7 +173,8 @@ module _ (rules : List Rule) (facts : List Fact) where
       not-answer u k c e j = let (o, f) = answer-object (var u) j in let z : _≡_ {A = ℕ} 0 1 = cc in omega arith
 
       -- the budget, without the bound
-      plain : (l n rest : ℕ) → Budget (λ b j. HoldsIn h b j × (j ≤ n)) (dropAt (m .query .atoms) l) rest → Budget (HoldsIn h) (dropAt (m .query .atoms) l) rest
+      plain : (l n rest : ℕ) → Budget (λ b j. HoldsIn h b j × (j ≤ n)) (dropAt (m .query .atoms) l) rest
+          → Budget (HoldsIn h) (dropAt (m .query .atoms) l) rest
       plain l n rest b = budget-map (λ b j. HoldsIn h b j × (j ≤ n)) (HoldsIn h) (dropAt (m .query .atoms) l) rest (λ x j m′ w. w .0) b
 
       -- The atom at l costs most, n + 1 rounds, and its null stands at a bound variable, so in another atom too. Either that
@@ -164,12 +183,16 @@ module _ (rules : List Rule) (facts : List Fact) where
           → Budget (λ b j. HoldsIn h b j × (j ≤ suc n)) (dropAt (m .query .atoms) l) rest → MemberMatched (n + rest)
       at-bound l k ρ a n rest at atk (u, c, e, makes, once, bound) budget =
           let (j, b, atj, d, stands) = bound-elsewhere (m .query) u l a at bound once (not-answer u k c e) in
-          let (cost, w₀) = budget-at (λ b j. HoldsIn h b j × (j ≤ suc n)) (dropAt (m .query .atoms) l) rest (mem-dropAt (m .query .atoms) l j atj d) budget in
-          let (ρ′, f, at′, makes′, w) = birth rules facts cost (mapAtom (value h) b) k c (w₀ .0) (Memᴰ·cast (sym e) (map-args (value h) b stands)) in
-          let same : mapAtom (value h) a ≡ f = makes-unique k ρ c (mapAtom (value h) a) f makes (subst (λ r. Makes k r c f) (at-unique rules k at′ atk) makes′) in
+          let (cost, w₀) = budget-at (λ b j. HoldsIn h b j × (j ≤ suc n)) (dropAt (m .query .atoms) l) rest
+          (mem-dropAt (m .query .atoms) l j atj d) budget in
+          let (ρ′, f, at′, makes′, w) = birth rules facts cost (mapAtom (value h) b) k c (w₀ .0)
+          (Memᴰ·cast (sym e) (map-args (value h) b stands)) in
+          let same : mapAtom (value h) a ≡ f =
+          makes-unique k ρ c (mapAtom (value h) a) f makes (subst (λ r. Makes k r c f) (at-unique rules k at′ atk) makes′) in
           elim w [
             | inl eq ↦ more rest (n + rest) (omega arith) (by-merge l j a b rest at atj d (same ∙ sym eq) (plain l (suc n) rest budget))
-            | inr v ↦ lowered l a (v .0) n rest at (subst (Round rules facts (v .0)) (sym same) (v .2)) (omega (arith, v .1, w₀ .1)) (plain l (suc n) rest budget)
+            | inr v ↦ lowered l a (v .0) n rest at (subst (Round rules facts (v .0)) (sym same) (v .2)) (omega (arith, v .1, w₀ .1))
+                (plain l (suc n) rest budget)
           ]
 
       -- The atom at l costs most, n + 1 rounds: some member is matched at a lower cost.
@@ -184,11 +207,13 @@ module _ (rules : List Rule) (facts : List Fact) where
 
       -- the greatest cost is none: the facts alone hold every atom
       free : (l : ℕ) (a : Atom Term) (rest : ℕ) → At (m .query .atoms) l a → HoldsIn h a zero
-          → Budget (λ b j. HoldsIn h b j × (j ≤ zero)) (dropAt (m .query .atoms) l) rest → (x : Atom Term) → x ∈ m .query .atoms → HoldsIn h x zero
+          → Budget (λ b j. HoldsIn h b j × (j ≤ zero)) (dropAt (m .query .atoms) l) rest → (x : Atom Term) → x ∈ m .query .atoms
+          → HoldsIn h x zero
       free l a rest at held budget x j =
           let (w, atw) = mem-at j in elim (ℕ-discrete w l) [
             | yes e ↦ subst (λ y. HoldsIn h y zero) (at-equal (m .query .atoms) (sym e) at atw) held
-            | no d ↦ (let (n, w₀) = budget-at (λ b j. HoldsIn h b j × (j ≤ zero)) (dropAt (m .query .atoms) l) rest (mem-dropAt (m .query .atoms) l w atw d) budget in
+            | no d ↦ (let (n, w₀) = budget-at (λ b j. HoldsIn h b j × (j ≤ zero)) (dropAt (m .query .atoms) l) rest
+                (mem-dropAt (m .query .atoms) l w atw d) budget in
                 let z : n ≡ zero = omega (arith, w₀ .1) in subst (λ k. HoldsIn h x k) z (w₀ .0))
           ]
 
@@ -196,7 +221,8 @@ module _ (rules : List Rule) (facts : List Fact) where
       found all = (m, i, record { match = h; holds = all; sends = sends })
 
       -- nothing left to pay, or a lower cost
-      next : (total : ℕ) → Budget (HoldsIn h) (m .query .atoms) total → FirstReader union facts tuple ⊎ ((k : ℕ) × (k < total) × MemberMatched k)
+      next : (total : ℕ) → Budget (HoldsIn h) (m .query .atoms) total
+          → FirstReader union facts tuple ⊎ ((k : ℕ) × (k < total) × MemberMatched k)
       next total budget = elim (greatest-or-empty (HoldsIn h) (m .query .atoms) total budget) [
         | inl e ↦ inl (found (λ x j. absurd (List·Memᴰ·not-nil (subst (λ xs. x ∈ xs) e j))))
         | inr g ↦ from g

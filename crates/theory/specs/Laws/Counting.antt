@@ -31,8 +31,10 @@ module _ {X : Type 0} (w : X → ℕ) where
   unfolding total
   total-two [] i j e f n = absurd (none≢some e)
   total-two (z ∷ zs) zero zero e f n = absurd (n refl)
-  total-two (z ∷ zs) zero (suc j) {x} {y} e f n = let d : w z ≡ w x = ap w (some-inj e) in let g : w y ≤ total zs = total-at zs j f in omega arith
-  total-two (z ∷ zs) (suc i) zero {x} {y} e f n = let d : w z ≡ w y = ap w (some-inj f) in let g : w x ≤ total zs = total-at zs i e in omega arith
+  total-two (z ∷ zs) zero (suc j) {x} {y} e f n =
+      let d : w z ≡ w x = ap w (some-inj e) in let g : w y ≤ total zs = total-at zs j f in omega arith
+  total-two (z ∷ zs) (suc i) zero {x} {y} e f n =
+      let d : w z ≡ w y = ap w (some-inj f) in let g : w x ≤ total zs = total-at zs i e in omega arith
   total-two (z ∷ zs) (suc i) (suc j) {x} {y} e f n = let d : w x + w y ≤ total zs = total-two zs i j e f (λ k. n (ap suc k)) in omega arith
 
   -- where all weigh something, or more than one of them, there is one, or another one, that weighs something
@@ -54,7 +56,8 @@ module _ {X : Type 0} (w : X → ℕ) where
       (suc (r .0), r .1, r .2, omega arith, r .3)
   total-more (z ∷ zs) (suc i) {x} e h = go (w z) refl (λ l. total-more zs i e l)
     where
-      go : (k : ℕ) → w z ≡ k → (w x < total zs → (j : ℕ) × (y : X) × At zs j y × (j ≢ i) × (0 < w y)) → (j : ℕ) × (y : X) × At (z ∷ zs) j y × (j ≢ suc i) × (0 < w y)
+      go : (k : ℕ) → w z ≡ k → (w x < total zs → (j : ℕ) × (y : X) × At zs j y × (j ≢ i) × (0 < w y)) → (j : ℕ) × (y : X) × At (z ∷ zs) j y
+          × (j ≢ suc i) × (0 < w y)
       go zero d below = let r = below (omega arith) in let n : r .0 ≢ i = r .3 in (suc (r .0), r .1, r .2, omega arith, r .4)
       go (suc k) d below = (zero, z, refl, omega arith, omega arith)
 

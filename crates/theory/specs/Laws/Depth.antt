@@ -40,9 +40,11 @@ module _ (rules : List Rule) (q : Query) (union : UCQ) (accepted : Accepted rule
 
   reaches-first : (known : List ℕ) (m : Member) → length known ≡ 0 → At union 0 m → Reaches (depthOf known m) (m .query)
   reaches-first known m e at tuple n k l w =
-      answer-later rules facts n k q tuple (omega arith) (subst (λ (p : Member). Answer (Round rules facts n) (p .query) tuple) (at-unique union 0 at (accepted .first)) w)
+      answer-later rules facts n k q tuple (omega arith)
+      (subst (λ (p : Member). Answer (Round rules facts n) (p .query) tuple) (at-unique union 0 at (accepted .first)) w)
 
-  reaches-later : (known : List ℕ) (m : Member) → Known known → 0 < length known → At union (length known) m → Reaches (depthOf known m) (m .query)
+  reaches-later : (known : List ℕ) (m : Member) → Known known → 0 < length known → At union (length known) m
+      → Reaches (depthOf known m) (m .query)
   reaches-later known m below pos at tuple n k l w = go (accepted .later (length known) m pos at)
     where
       d : ℕ
@@ -53,10 +55,12 @@ module _ (rules : List Rule) (q : Query) (union : UCQ) (accepted : Accepted rule
           let found : Answer (Round rules facts n) r tuple = alike-answer (Round rules facts n) r (m .query) tuple alike w in
           elim made [
             | inl s ↦ below (m .step .parent) p before place tuple (suc n) k
-                (let e : depthOf known m ≡ suc d = pick-true (eqb (m .step .kind) 1) (suc d) d (T-eqb (m .step .kind) 1 .1 (s .0)) in omega arith)
+                (let e : depthOf known m ≡ suc d = pick-true (eqb (m .step .kind) 1) (suc d) d (T-eqb (m .step .kind) 1 .1 (s .0)) in
+                omega arith)
                 (rule-sound rules facts n (p .query) r (m .step .atom) (m .step .other) tuple (s .1) found)
             | inr s ↦ below (m .step .parent) p before place tuple n k
-                (let e : depthOf known m ≡ d = pick-false (eqb (m .step .kind) 1) (suc d) d (λ t. let f = T-eqb (m .step .kind) 1 .0 t in let g = s .0 in omega arith) in omega arith)
+                (let e : depthOf known m ≡ d = pick-false (eqb (m .step .kind) 1) (suc d) d (λ t. let f = T-eqb (m .step .kind) 1 .0 t in
+                let g = s .0 in omega arith) in omega arith)
                 (merge-sound (Round rules facts n) (p .query) r (m .step .atom) (m .step .other) tuple (s .1) found)
           ]
 
@@ -70,13 +74,15 @@ module _ (rules : List Rule) (q : Query) (union : UCQ) (accepted : Accepted rule
   known-next : (known : List ℕ) (m : Member) → Known known → At union (length known) m → Known (known ++ (depthOf known m ∷ []))
   known-next known m below at j p l atj =
       elim (eq-or-lt-of-le (le-of-suc-le-suc {n = j} {m = length known} (omega (arith, length-append known (depthOf known m ∷ []))))) [
-        | inl e ↦ subst (λ d. Reaches d (p .query)) (sym (ap (λ i. getD (known ++ (depthOf known m ∷ [])) i 0) e ∙ getD-append-seam known (depthOf known m) [] 0))
+        | inl e ↦ subst (λ d. Reaches d (p .query))
+            (sym (ap (λ i. getD (known ++ (depthOf known m ∷ [])) i 0) e ∙ getD-append-seam known (depthOf known m) [] 0))
             (subst (λ (n : Member). Reaches (depthOf known m) (n .query)) (at-equal union (sym e) at atj) (reaches-next known m below at))
         | inr k ↦ subst (λ d. Reaches d (p .query)) (sym (List·getD-append known (depthOf known m ∷ []) 0 j k)) (below j p k atj)
       ]
 
   -- the members still to come are the rest of the union
-  all-known : (known : List ℕ) (rest : UCQ) → ((j : ℕ) → getElem? union (length known + j) ≡ getElem? rest j) → Known known → Known (depthsAfter known rest)
+  all-known : (known : List ℕ) (rest : UCQ) → ((j : ℕ) → getElem? union (length known + j) ≡ getElem? rest j) → Known known
+      → Known (depthsAfter known rest)
   unfolding depthsAfter
   all-known known [] place below = below
   all-known known (m ∷ ms) place below =
@@ -93,5 +99,6 @@ module _ (rules : List Rule) (q : Query) (union : UCQ) (accepted : Accepted rule
       let len : length (depthsAfter [] union) ≡ length union = length-depths [] union ∙ zero-add (length union) in
       all-known [] union (λ j. ap (getElem? union) (zero-add j)) (λ j m l. absurd (not-suc-le-zero l)) (at .0) (w .0)
       (omega arith) (at .1) tuple 0 (foldr max 0 (depthsAfter [] union))
-      (let h : getD (depthsAfter [] union) (at .0) 0 ≤ foldr max 0 (depthsAfter [] union) = getD-max (depthsAfter [] union) (at .0) in omega arith)
+      (let h : getD (depthsAfter [] union) (at .0) 0 ≤ foldr max 0 (depthsAfter [] union) = getD-max (depthsAfter [] union) (at .0) in
+      omega arith)
       (w .2)

@@ -12,7 +12,8 @@ use Rattle.theory.specs.Syntax.{Term, var, const, Atom, Query, terms, ma
 use Rattle.theory.specs.Renaming.{Alike}
 use Rattle.theory.specs.Laws.Options.{T-eqb}
 use Rattle.theory.specs.Laws.Lists.{here, mem-along, map-agree, map-after}
-use Rattle.theory.specs.Laws.Syntax.{send-rename, mapAtom-rename, subst-var, only-var, mapAtom-id, mapAtom-agree, mapAtom-after, map-args, terms-atoms, terms-answers, terms-cases, terms-from}
+use Rattle.theory.specs.Laws.Syntax.{send-rename, mapAtom-rename, subst-var, only-var, mapAtom-id, mapAtom-agree, mapAtom-after}
+use Rattle.theory.specs.Laws.Syntax.{map-args, terms-atoms, terms-answers, terms-cases, terms-from}
 
 -- ---- a renaming on the terms of a query
 
@@ -34,7 +35,8 @@ module _ (p q : Query) (r : Alike p q) where
 -- ---- reflexivity
 
 -- the order in which atoms are kept does not matter
-pub alike-same : (p q : Query) → p .answers ≡ q .answers → ((a : Atom Term) → a ∈ p .atoms → a ∈ q .atoms) → ((a : Atom Term) → a ∈ q .atoms → a ∈ p .atoms) → Alike p q
+pub alike-same : (p q : Query) → p .answers ≡ q .answers → ((a : Atom Term) → a ∈ p .atoms → a ∈ q .atoms)
+    → ((a : Atom Term) → a ∈ q .atoms → a ∈ p .atoms) → Alike p q
 alike-same p q answers forth back = record {
   to = λ v. v;
   one-to-one = λ u v m n e. e;
@@ -57,9 +59,13 @@ pub alike-trans : (p q r : Query) → Alike p q → Alike q r → Alike p r
 alike-trans p q r f g = record {
   to = both;
   one-to-one = λ u v m n e. f .one-to-one u v m n (g .one-to-one (f .to u) (f .to v) (term-into p q f m) (term-into p q f n) e);
-  on-answers = sym (map-after (rename (g .to)) (rename (f .to)) (rename both) (p .answers) (λ t m. send-rename const (λ v. var (g .to v)) (f .to) t)) ∙ ap (map (rename (g .to))) (f .on-answers) ∙ g .on-answers;
+  on-answers =
+      sym (map-after (rename (g .to)) (rename (f .to)) (rename both) (p .answers) (λ t m. send-rename const (λ v. var (g .to v)) (f .to) t))
+      ∙ ap (map (rename (g .to))) (f .on-answers) ∙ g .on-answers;
   into = λ a m. Memᴰ·cast (composed a) (g .into (mapAtom (rename (f .to)) a) (f .into a m));
-  onto = λ c m. (let b = g .onto c m in let a = f .onto (b .0) (b .1) in (a .0, a .1, composed (a .0) ∙ ap (mapAtom (rename (g .to))) (a .2) ∙ b .2));
+  onto =
+      λ c m. (let b = g .onto c m in let a = f .onto (b .0) (b .1) in
+      (a .0, a .1, composed (a .0) ∙ ap (mapAtom (rename (g .to))) (a .2) ∙ b .2));
 }
   where
     both : ℕ → ℕ
@@ -89,7 +95,8 @@ sentTo-found f (var u ∷ ts) v m = go (eqb (f u) (f v)) (T-eqb (f u) (f v) .0) 
     later : ℕ
     later = sentTo f ts (f v)
 
-    go : (b : Bool) → (T b → f u ≡ f v) → (f u ≡ f v → T b) → (var v ∈ ts → (var later ∈ ts) × (f later ≡ f v)) → (var (pick b u later) ∈ var u ∷ ts) × (f (pick b u later) ≡ f v)
+    go : (b : Bool) → (T b → f u ≡ f v) → (f u ≡ f v → T b) → (var v ∈ ts → (var later ∈ ts) × (f later ≡ f v))
+        → (var (pick b u later) ∈ var u ∷ ts) × (f (pick b u later) ≡ f v)
     go true sent first below = (here, sent tt)
     go false sent first below =
         elim (List·Memᴰ·cases-cons m) [
@@ -99,7 +106,8 @@ sentTo-found f (var u ∷ ts) v m = go (eqb (f u) (f v)) (T-eqb (f u) (f v) .0) 
 
 -- a renaming can be undone
 abbrev pub Inverse : (p q : Query) → Alike p q → Type 0
-Inverse p q r = (g : ℕ → ℕ) × ((v : ℕ) → var v ∈ terms p → g (r .to v) ≡ v) × ((w : ℕ) → var w ∈ terms q → (var (g w) ∈ terms p) × (r .to (g w) ≡ w))
+Inverse p q r =
+    (g : ℕ → ℕ) × ((v : ℕ) → var v ∈ terms p → g (r .to v) ≡ v) × ((w : ℕ) → var w ∈ terms q → (var (g w) ∈ terms p) × (r .to (g w) ≡ w))
 
 module _ (p q : Query) (r : Alike p q) where
   pub inverse : Inverse p q r
@@ -129,8 +137,10 @@ module _ (p q : Query) (r : Alike p q) where
     term-undone (var v) m = ap h (inverse .1 v m)
     term-undone (const c) m = refl
 
-    pub atom-undone : (a : Atom Term) → a ∈ p .atoms → mapAtom (send self (λ w. h (undo w))) (mapAtom (rename (r .to)) a) ≡ mapAtom (send self h) a
-    atom-undone a m = mapAtom-after (send self (λ w. h (undo w))) (rename (r .to)) (send self h) a (λ t n. term-undone t (terms-atoms p m n))
+    pub atom-undone : (a : Atom Term) → a ∈ p .atoms → mapAtom (send self (λ w. h (undo w))) (mapAtom (rename (r .to)) a)
+        ≡ mapAtom (send self h) a
+    atom-undone a m =
+        mapAtom-after (send self (λ w. h (undo w))) (rename (r .to)) (send self h) a (λ t n. term-undone t (terms-atoms p m n))
 
   rename-undone : (t : Term) → t ∈ terms p → rename undo (rename (r .to) t) ≡ t
   rename-undone t m = term-undone const var t m ∙ subst-var t
@@ -150,7 +160,9 @@ alike-sym p q r = record {
   to = undo p q r;
   one-to-one = λ u v m n e. sym (inverse p q r .2 u m .1) ∙ ap (r .to) e ∙ inverse p q r .2 v n .1;
   on-answers = ap (map (rename (undo p q r))) (sym (r .on-answers))
-      ∙ map-after (rename (undo p q r)) (rename (r .to)) (λ t. t) (p .answers) (λ t m. rename-undone p q r t (terms-answers p m)) ∙ map-id (p .answers);
-  into = λ b m. (let a = r .onto b m in Memᴰ·cast (ap (mapAtom (rename (undo p q r))) (sym (a .2)) ∙ image-undone p q r (a .0) (a .1)) (a .1));
+      ∙ map-after (rename (undo p q r)) (rename (r .to)) (λ t. t) (p .answers) (λ t m. rename-undone p q r t (terms-answers p m))
+      ∙ map-id (p .answers);
+  into =
+      λ b m. (let a = r .onto b m in Memᴰ·cast (ap (mapAtom (rename (undo p q r))) (sym (a .2)) ∙ image-undone p q r (a .0) (a .1)) (a .1));
   onto = λ a m. (mapAtom (rename (r .to)) a, r .into a m, image-undone p q r a m);
 }

@@ -27,7 +27,8 @@ unfolding lowest
 lowest-new zero v ts h m = let l : v < bound ts = bound-above ts v m in omega arith
 lowest-new (suc tries) v ts h m = go (any (sameTerm (var v)) ts) refl (lowest-new tries (suc v) ts (omega arith)) m
   where
-    go : (b : Bool) → any (sameTerm (var v)) ts ≡ b → ¬ (var (lowest tries (suc v) ts) ∈ ts) → ¬ (var (pick b (lowest tries (suc v) ts) v) ∈ ts)
+    go : (b : Bool) → any (sameTerm (var v)) ts ≡ b → ¬ (var (lowest tries (suc v) ts) ∈ ts)
+        → ¬ (var (pick b (lowest tries (suc v) ts) v) ∈ ts)
     go true e below n = below n
     go false e below n = subst T e (any-same sameTerm sameTerm-iff (var v) ts .1 n)
 
@@ -37,7 +38,8 @@ unfolding lowest
 lowest-passed zero v ts u h k = absurd (omega arith)
 lowest-passed (suc tries) v ts u h k = go (any (sameTerm (var v)) ts) refl (λ l n. lowest-passed tries (suc v) ts u l n) k
   where
-    go : (b : Bool) → any (sameTerm (var v)) ts ≡ b → (v < u → u < lowest tries (suc v) ts → var u ∈ ts) → u < pick b (lowest tries (suc v) ts) v → var u ∈ ts
+    go : (b : Bool) → any (sameTerm (var v)) ts ≡ b → (v < u → u < lowest tries (suc v) ts → var u ∈ ts)
+        → u < pick b (lowest tries (suc v) ts) v → var u ∈ ts
     go true e below n =
         elim (eq-or-lt-of-le h) [
           | inl d ↦ Memᴰ·cast (ap var (sym d)) (any-same sameTerm sameTerm-iff (var v) ts .0 (subst T (sym e) tt))

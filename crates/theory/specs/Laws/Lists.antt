@@ -7,7 +7,9 @@ use native.Mathlib.Decide.{ℕ-discrete}
 use native.Mathlib.Omega.{arith}
 use mathlib.Core.Bool.{Bool, true, false, _||_, or-assoc}
 use mathlib.Core.Option.{Option, none, some}
-use mathlib.Core.List.{List, [], _∷_, _++_, append-assoc, map, map-map, map-id, foldr, flatMap, List·Memᴰ·head, List·Memᴰ·tail, List·Memᴰ·not-nil, List·Memᴰ·cases-cons, List·Memᴰ·eq-of-singleton, List·Memᴰ·append-cases, Memᴰ·append-left, Memᴰ·append-right, Memᴰ·cast}
+use mathlib.Core.List.{List, [], _∷_, _++_, append-assoc, map, map-map, map-id, foldr, flatMap, List·Memᴰ·head, List·Memᴰ·tail}
+use mathlib.Core.List.{List·Memᴰ·not-nil, List·Memᴰ·cases-cons, List·Memᴰ·eq-of-singleton, List·Memᴰ·append-cases, Memᴰ·append-left}
+use mathlib.Core.List.{Memᴰ·append-right, Memᴰ·cast}
 use lib.Dec.{T}
 use lib.ListN.{length, getElem?, getD, set}
 use Rattle.theory.specs.Lists.{_∈_, At, Unrepeated, pick, any, all, without, once, pairwise, firstSome, toList, isSome, numbers}
@@ -53,7 +55,8 @@ module _ {X : Type 0} where
   any-iff p xs = (any-found p xs, λ w. any-of p (w .1) (w .2))
 
   -- a test that decides P finds an element of which P holds
-  pub any-decides : (test : X → Bool) (P : X → Type 0) (xs : List X) → ((x : X) → T (test x) ↔ P x) → T (any test xs) ↔ ((x : X) × (x ∈ xs) × P x)
+  pub any-decides : (test : X → Bool) (P : X → Type 0) (xs : List X) → ((x : X) → T (test x) ↔ P x) → T (any test xs)
+      ↔ ((x : X) × (x ∈ xs) × P x)
   any-decides test P xs decides = (
     λ t. let w = any-iff test xs .0 t in (w .0, w .1, decides (w .0) .0 (w .2)),
     λ w. any-iff test xs .1 (w .0, w .1, decides (w .0) .1 (w .2)),
@@ -68,7 +71,8 @@ module _ {X : Type 0} where
   )
 
 -- every element of the one list passes the test with some element of the other
-pub all-any-iff : {X Y : Type 0} (test : X → Y → Bool) (xs : List X) (ys : List Y) → T (all (λ x. any (test x) ys) xs) ↔ ((x : X) → x ∈ xs → (y : Y) × (y ∈ ys) × T (test x y))
+pub all-any-iff : {X Y : Type 0} (test : X → Y → Bool) (xs : List X) (ys : List Y) → T (all (λ x. any (test x) ys) xs)
+    ↔ ((x : X) → x ∈ xs → (y : Y) × (y ∈ ys) × T (test x y))
 all-any-iff test xs ys = (
   λ t x m. any-iff (test x) ys .0 (all-iff (λ x. any (test x) ys) xs .0 t x m),
   λ f. all-iff (λ x. any (test x) ys) xs .1 (λ x m. any-iff (test x) ys .1 (f x m)),
@@ -83,7 +87,8 @@ module _ {X Y : Type 0} where
   map-agree f g (x ∷ xs) h = ap₂ _∷_ (h x here) (map-agree f g xs (λ y m. h y (List·Memᴰ·tail m)))
 
   -- a test that passes only on an element and its image gives the image of the list; one that passes on those passes on the lists
-  pub pairwise-image : (test : X → Y → Bool) (f : X → Y) (xs : List X) (ys : List Y) → ((x : X) (y : Y) → x ∈ xs → T (test x y) → f x ≡ y) → T (pairwise test xs ys) → map f xs ≡ ys
+  pub pairwise-image : (test : X → Y → Bool) (f : X → Y) (xs : List X) (ys : List Y) → ((x : X) (y : Y) → x ∈ xs → T (test x y) → f x ≡ y)
+      → T (pairwise test xs ys) → map f xs ≡ ys
   unfolding pairwise
   pairwise-image test f [] [] h t = refl
   pairwise-image test f [] (y ∷ ys) h t = absurd t
@@ -92,13 +97,16 @@ module _ {X Y : Type 0} where
       let s = T-and (test x y) (pairwise test xs ys) .0 t in
       ap₂ _∷_ (h x y here (s .0)) (pairwise-image test f xs ys (λ x y m. h x y (List·Memᴰ·tail m)) (s .1))
 
-  pub image-pairwise : (test : X → Y → Bool) (f : X → Y) (xs : List X) → ((x : X) → x ∈ xs → T (test x (f x))) → T (pairwise test xs (map f xs))
+  pub image-pairwise : (test : X → Y → Bool) (f : X → Y) (xs : List X) → ((x : X) → x ∈ xs → T (test x (f x)))
+      → T (pairwise test xs (map f xs))
   unfolding pairwise
   image-pairwise test f [] h = tt
-  image-pairwise test f (x ∷ xs) h = T-and (test x (f x)) (pairwise test xs (map f xs)) .1 (h x here, image-pairwise test f xs (λ x m. h x (List·Memᴰ·tail m)))
+  image-pairwise test f (x ∷ xs) h =
+      T-and (test x (f x)) (pairwise test xs (map f xs)) .1 (h x here, image-pairwise test f xs (λ x m. h x (List·Memᴰ·tail m)))
 
 -- two maps, one after the other, that come to a third on the elements
-pub map-after : {X Y Z : Type 0} (g : Y → Z) (f : X → Y) (k : X → Z) (xs : List X) → ((x : X) → x ∈ xs → g (f x) ≡ k x) → map g (map f xs) ≡ map k xs
+pub map-after : {X Y Z : Type 0} (g : Y → Z) (f : X → Y) (k : X → Z) (xs : List X) → ((x : X) → x ∈ xs → g (f x) ≡ k x)
+    → map g (map f xs) ≡ map k xs
 map-after g f k xs h = map-map g f xs ∙ map-agree (λ x. g (f x)) k xs h
 
 -- ---- elements left out, and elements kept once
@@ -112,7 +120,8 @@ module _ {X : Type 0} where
       later : (y ∈ xs) × (¬ T (p y)) → (y ∈ x ∷ xs) × (¬ T (p y))
       later r = (List·Memᴰ·tail (r .0), r .1)
 
-      go : (b : Bool) → p x ≡ b → (y ∈ without p xs → (y ∈ xs) × (¬ T (p y))) → y ∈ pick b (without p xs) (x ∷ without p xs) → (y ∈ x ∷ xs) × (¬ T (p y))
+      go : (b : Bool) → p x ≡ b → (y ∈ without p xs → (y ∈ xs) × (¬ T (p y))) → y ∈ pick b (without p xs) (x ∷ without p xs)
+          → (y ∈ x ∷ xs) × (¬ T (p y))
       go true e below n = later (below n)
       go false e below n =
           elim (List·Memᴰ·cases-cons n) [
@@ -125,7 +134,10 @@ module _ {X : Type 0} where
   without-mem p (List·Memᴰ·head {x = z} {xs = zs} e) f =
       mem-along (sym (pick-false (p z) (without p zs) (z ∷ without p zs) (λ t. f (subst (λ w. T (p w)) (sym e) t)))) (List·Memᴰ·head e)
   without-mem p {y = y} (List·Memᴰ·tail {x = z} {xs = zs} m) f =
-      elim (p z) as (λ b. y ∈ pick b (without p zs) (z ∷ without p zs)) [ true ↦ without-mem p m f | false ↦ List·Memᴰ·tail (without-mem p m f) ]
+      elim (p z) as (λ b. y ∈ pick b (without p zs) (z ∷ without p zs)) [
+        | true ↦ without-mem p m f
+        | false ↦ List·Memᴰ·tail (without-mem p m f)
+      ]
 
   without-unrepeated : (p : X → Bool) (xs : List X) → Unrepeated xs → Unrepeated (without p xs)
   unfolding without
@@ -182,7 +194,8 @@ module _ {X Y : Type 0} where
   firstSome-found f [] e = absurd (none≢some e)
   firstSome-found f (x ∷ xs) {y} e = go (f x) refl (λ d. firstSome-found f xs d) e
     where
-      go : (o : Option Y) → f x ≡ o → (firstSome f xs ≡ some y → (x : X) × (x ∈ xs) × (f x ≡ some y)) → _≡_ {A = Option Y} (elim o [ none ↦ firstSome f xs | some z ↦ some z ]) (some y) → (z : X) × (z ∈ x ∷ xs) × (f z ≡ some y)
+      go : (o : Option Y) → f x ≡ o → (firstSome f xs ≡ some y → (x : X) × (x ∈ xs) × (f x ≡ some y))
+          → _≡_ {A = Option Y} (elim o [ none ↦ firstSome f xs | some z ↦ some z ]) (some y) → (z : X) × (z ∈ x ∷ xs) × (f z ≡ some y)
       go none d later e = let r = later e in (r .0, List·Memᴰ·tail (r .1), r .2)
       go (some z) d later e = (x, here, d ∙ e)
 
@@ -194,7 +207,10 @@ module _ {X Y : Type 0} where
       go none t = absurd t
       go (some z) t = tt
   firstSome-of f (List·Memᴰ·tail {x = y} {xs = ys} m) t =
-      elim (f y) as (λ o. T (isSome {X = Y} (elim o [ none ↦ firstSome f ys | some z ↦ some z ]))) [ none ↦ firstSome-of f m t | some z ↦ tt ]
+      elim (f y) as (λ o. T (isSome {X = Y} (elim o [ none ↦ firstSome f ys | some z ↦ some z ]))) [
+        | none ↦ firstSome-of f m t
+        | some z ↦ tt
+      ]
 
   pub flatMap-found : (f : X → List Y) (xs : List X) {y : Y} → y ∈ flatMap f xs → (x : X) × (x ∈ xs) × (y ∈ f x)
   unfolding flatMap
@@ -213,7 +229,8 @@ module _ {X Y : Type 0} where
 mem-numbers : (start n i : ℕ) → start ≤ i → i < start + n → i ∈ numbers start n
 unfolding numbers
 mem-numbers start zero i h k = absurd (omega arith)
-mem-numbers start (suc n) i h k = elim (eq-or-lt-of-le h) [ inl e ↦ List·Memᴰ·head (sym e) | inr l ↦ List·Memᴰ·tail (mem-numbers (suc start) n i l (omega arith)) ]
+mem-numbers start (suc n) i h k =
+    elim (eq-or-lt-of-le h) [ inl e ↦ List·Memᴰ·head (sym e) | inr l ↦ List·Memᴰ·tail (mem-numbers (suc start) n i l (omega arith)) ]
 
 module _ {X : Type 0} (f : ℕ → ℕ → Option X) (m n : ℕ) where
   -- what f gives at two numbers, the first below m and the second below n
@@ -354,7 +371,8 @@ unfolding flatMap
 flatMap-append f [] ys = refl
 flatMap-append f (x ∷ xs) ys = ap (λ l. f x ++ l) (flatMap-append f xs ys) ∙ sym (append-assoc (f x) (flatMap f xs) (flatMap f ys))
 
-pub flatMap-flatMap : {X Y Z : Type 0} (g : Y → List Z) (f : X → List Y) (xs : List X) → flatMap g (flatMap f xs) ≡ flatMap (λ x. flatMap g (f x)) xs
+pub flatMap-flatMap : {X Y Z : Type 0} (g : Y → List Z) (f : X → List Y) (xs : List X)
+    → flatMap g (flatMap f xs) ≡ flatMap (λ x. flatMap g (f x)) xs
 unfolding flatMap
 flatMap-flatMap g f [] = refl
 flatMap-flatMap g f (x ∷ xs) = flatMap-append g (f x) (flatMap f xs) ∙ ap (λ l. flatMap g (f x) ++ l) (flatMap-flatMap g f xs)

@@ -8,7 +8,8 @@ use Rattle.theory.specs.Syntax.{Term, var, const, Atom, Query, terms, ma
 use Rattle.theory.specs.Rewriting.{substitute}
 use Rattle.theory.specs.Renaming.{Alike}
 use Rattle.theory.specs.Laws.Lists.{map-after}
-use Rattle.theory.specs.Laws.Syntax.{mapAtom-rename, only-var, mapAtom-after, mapAtom-mapAtom, terms-atoms, terms-answers, terms-from, substitute-mem, mem-substitute}
+use Rattle.theory.specs.Laws.Syntax.{mapAtom-rename, only-var, mapAtom-after, mapAtom-mapAtom, terms-atoms, terms-answers, terms-from}
+use Rattle.theory.specs.Laws.Syntax.{substitute-mem, mem-substitute}
 use Rattle.theory.specs.Laws.Unifier.{Unifies, unifies-equal, unifies-factors}
 use Rattle.theory.specs.Laws.Equivalence.{undo, term-undone, atom-undone, alike-refl, alike-refl-atom}
 
@@ -50,7 +51,8 @@ module _ (p q : Query) (r : Alike p q) (σ τ α β : ℕ → Term)
   unfolding renaming
   carries t m = undone-renames α β (subst-term σ t) (ap (subst-term β) (forth t m) ∙ back t m) ∙ forth t m
 
-  carries-atom : (a : Atom Term) → a ∈ p .atoms → mapAtom (rename renaming) (mapAtom (subst-term σ) a) ≡ mapAtom (subst-term τ) (mapAtom (rename (r .to)) a)
+  carries-atom : (a : Atom Term) → a ∈ p .atoms → mapAtom (rename renaming) (mapAtom (subst-term σ) a)
+      ≡ mapAtom (subst-term τ) (mapAtom (rename (r .to)) a)
   carries-atom a m =
       mapAtom-after (rename renaming) (subst-term σ) (λ t. subst-term τ (rename (r .to) t)) a (λ t n. carries t (terms-atoms p m n))
       ∙ sym (mapAtom-mapAtom (subst-term τ) (rename (r .to)) a)
@@ -69,15 +71,24 @@ module _ (p q : Query) (r : Alike p q) (σ τ α β : ℕ → Term)
   substitute-alike = record {
     to = renaming;
     one-to-one = separates;
-    on-answers = map-after (rename renaming) (subst-term σ) (λ t. subst-term τ (rename (r .to) t)) (p .answers) (λ t m. carries t (terms-answers p m)) ∙ sym (map-after (subst-term τ) (rename (r .to)) (λ t. subst-term τ (rename (r .to) t)) (p .answers) (λ t m. refl)) ∙ ap (map (subst-term τ)) (r .on-answers);
-    into = λ c m. (let a = substitute-mem σ p m in Memᴰ·cast (ap (mapAtom (rename renaming)) (sym (a .2)) ∙ carries-atom (a .0) (a .1)) (mem-substitute τ q (r .into (a .0) (a .1))));
-    onto = λ c m. (let b = substitute-mem τ q m in let a = r .onto (b .0) (b .1) in (mapAtom (subst-term σ) (a .0), mem-substitute σ p (a .1), carries-atom (a .0) (a .1) ∙ ap (mapAtom (subst-term τ)) (a .2) ∙ b .2));
+    on-answers =
+        map-after (rename renaming) (subst-term σ) (λ t. subst-term τ (rename (r .to) t)) (p .answers)
+        (λ t m. carries t (terms-answers p m))
+        ∙ sym (map-after (subst-term τ) (rename (r .to)) (λ t. subst-term τ (rename (r .to) t)) (p .answers) (λ t m. refl))
+        ∙ ap (map (subst-term τ)) (r .on-answers);
+    into =
+        λ c m. (let a = substitute-mem σ p m in
+        Memᴰ·cast (ap (mapAtom (rename renaming)) (sym (a .2)) ∙ carries-atom (a .0) (a .1)) (mem-substitute τ q (r .into (a .0) (a .1))));
+    onto =
+        λ c m. (let b = substitute-mem τ q m in let a = r .onto (b .0) (b .1) in
+        (mapAtom (subst-term σ) (a .0), mem-substitute σ p (a .1), carries-atom (a .0) (a .1) ∙ ap (mapAtom (subst-term τ)) (a .2) ∙ b .2));
   }
 
 -- ---- every choice leads to alike results
 
 module _ (p q : Query) (r : Alike p q) (a b : Atom Term) (ma : a ∈ p .atoms) (mb : b ∈ p .atoms) (σ τ : ℕ → Term) where
-  pub merged-alike : MostGeneral a b σ → MostGeneral (mapAtom (rename (r .to)) a) (mapAtom (rename (r .to)) b) τ → Alike (substitute σ p) (substitute τ q)
+  pub merged-alike : MostGeneral a b σ → MostGeneral (mapAtom (rename (r .to)) a) (mapAtom (rename (r .to)) b) τ
+      → Alike (substitute σ p) (substitute τ q)
   merged-alike most most′ = substitute-alike p q r σ τ (α .0) (β .0) forth back
     where
       α : (δ : ℕ → Term) × ((v : ℕ) → τ (r .to v) ≡ subst-term δ (σ v))
@@ -94,7 +105,8 @@ module _ (p q : Query) (r : Alike p q) (a b : Atom Term) (ma : a ∈ p .atoms) (
       back (var v) m = sym (β .1 (r .to v)) ∙ term-undone p q r const σ (var v) m
       back (const c) m = refl
 
-pub any-choice-alike : (q : Query) (a b : Atom Term) → a ∈ q .atoms → b ∈ q .atoms → (σ τ : ℕ → Term) → MostGeneral a b σ → MostGeneral a b τ → Alike (substitute σ q) (substitute τ q)
+pub any-choice-alike : (q : Query) (a b : Atom Term) → a ∈ q .atoms → b ∈ q .atoms → (σ τ : ℕ → Term) → MostGeneral a b σ
+    → MostGeneral a b τ → Alike (substitute σ q) (substitute τ q)
 any-choice-alike q a b ma mb σ τ most most′ =
     merged-alike q q (alike-refl q) a b ma mb σ τ most
     (subst₂ (λ x y. MostGeneral x y τ) (sym (alike-refl-atom q a)) (sym (alike-refl-atom q b)) most′)

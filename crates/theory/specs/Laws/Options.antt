@@ -94,7 +94,8 @@ module _ {X : Type 0} where
   found-pick false t f = absurd t
 
   -- and so does one that is made by cases on the test
-  pub tested-found : (b : Bool) (o : Option X) {x : X} → _≡_ {A = Option X} (elim b [ true ↦ o | false ↦ none ]) (some x) → T b × (o ≡ some x)
+  pub tested-found : (b : Bool) (o : Option X) {x : X} → _≡_ {A = Option X} (elim b [ true ↦ o | false ↦ none ]) (some x)
+      → T b × (o ≡ some x)
   tested-found true o e = (tt, e)
   tested-found false o e = absurd (none≢some e)
 
@@ -111,5 +112,6 @@ module _ {X Y : Type 0} where
   pub andThen-at : {o : Option X} (f : X → Option Y) {x : X} → o ≡ some x → andThen o f ≡ f x
   andThen-at f e = ap (λ o. andThen o f) e
 
-  pub found-andThen : {o : Option X} (f : X → Option Y) → ((x : X) × (o ≡ some x)) → ((x : X) → o ≡ some x → (y : Y) × (f x ≡ some y)) → (y : Y) × (andThen o f ≡ some y)
+  pub found-andThen : {o : Option X} (f : X → Option Y) → ((x : X) × (o ≡ some x)) → ((x : X) → o ≡ some x → (y : Y) × (f x ≡ some y))
+      → (y : Y) × (andThen o f ≡ some y)
   found-andThen f m rest = let n = rest (m .0) (m .1) in (n .0, andThen-at f (m .1) ∙ n .1)

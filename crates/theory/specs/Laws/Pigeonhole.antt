@@ -46,4 +46,6 @@ places-few (concept A x ∷ rest) = let h : length (places rest) ≤ 2 * length 
 places-few (role P x y ∷ rest) = let h : length (places rest) ≤ 2 * length rest = places-few rest in omega arith
 
 pub terms-few : (q : Query) → length (terms q) ≤ length (q .answers) + 2 * length (q .atoms)
-terms-few q = let h : length (places (q .atoms)) ≤ 2 * length (q .atoms) = places-few (q .atoms) in omega (arith, length-append (q .answers) (places (q .atoms)))
+terms-few q =
+    let h : length (places (q .atoms)) ≤ 2 * length (q .atoms) = places-few (q .atoms) in
+    omega (arith, length-append (q .answers) (places (q .atoms)))

@@ -16,7 +16,8 @@ use Rattle.theory.specs.Renaming.{Alike}
 use Rattle.theory.specs.Laws.Options.{either, same-test}
 use Rattle.theory.specs.Laws.Lists.{here, at-mem, mem-at, at-equal, mem-along, map-agree, unrepeated-at, set-mem}
 use Rattle.theory.specs.Laws.Counting.{total, total-at, total-some, count-same}
-use Rattle.theory.specs.Laws.Syntax.{sameTerm-iff, mapAtom-agree, args-map, terms-atoms, terms-answers, terms-cases, keepOnce-mem, mem-keepOnce, update, update-same, update-other}
+use Rattle.theory.specs.Laws.Syntax.{sameTerm-iff, mapAtom-agree, args-map, terms-atoms, terms-answers, terms-cases, keepOnce-mem}
+use Rattle.theory.specs.Laws.Syntax.{mem-keepOnce, update, update-same, update-other}
 use Rattle.theory.specs.Laws.Unbound.{standing, unbound-total, unbound-answers, unbound-elsewhere, bound-elsewhere}
 use Rattle.theory.specs.Laws.Fresh.{fresh-new}
 use Rattle.theory.specs.Laws.Steps.{ruleStep-iff}
@@ -25,25 +26,31 @@ use Rattle.theory.specs.Laws.Rules.{Within, rewrite-image}
 
 module _ {X Y : Type 0} (f : X → Y) where
   -- a test counts on an atom's image what it counts on the atom if it is made before the map
-  count-image : (test : Y → Bool) (before : X → Bool) (a : Atom X) → ((x : X) → x ∈ args a → test (f x) ≡ before x) → count test (args (mapAtom f a)) ≡ count before (args a)
+  count-image : (test : Y → Bool) (before : X → Bool) (a : Atom X) → ((x : X) → x ∈ args a → test (f x) ≡ before x)
+      → count test (args (mapAtom f a)) ≡ count before (args a)
   unfolding count
   count-image test before (concept A x) h = rw (h x here)
   count-image test before (role P x y) h = rw (h x here, h y (List·Memᴰ·tail here))
 
 -- what stands in a query after its atom a was changed to b
-change-mem : (q : Query) (i : ℕ) (a b : Atom Term) → Unrepeated (q .atoms) → At (q .atoms) i a → (c : Atom Term) → (c ∈ changeAtom q i b .atoms) ↔ ((c ≡ b) ⊎ ((c ∈ q .atoms) × (c ≢ a)))
+change-mem : (q : Query) (i : ℕ) (a b : Atom Term) → Unrepeated (q .atoms) → At (q .atoms) i a → (c : Atom Term)
+    → (c ∈ changeAtom q i b .atoms) ↔ ((c ≡ b) ⊎ ((c ∈ q .atoms) × (c ≢ a)))
 unfolding changeAtom
 change-mem q i a b u e c = (
   λ m. set-mem (q .atoms) i a b u e c .0 (keepOnce-mem (set (q .atoms) i b) m),
   λ s. mem-keepOnce (set-mem (q .atoms) i a b u e c .1 s),
 )
 
-change-terms : (q : Query) (i : ℕ) (a b : Atom Term) → Unrepeated (q .atoms) → At (q .atoms) i a → (t : Term) → t ∈ terms (changeAtom q i b) → (t ∈ terms q) ⊎ (t ∈ args b)
+change-terms : (q : Query) (i : ℕ) (a b : Atom Term) → Unrepeated (q .atoms) → At (q .atoms) i a → (t : Term) → t ∈ terms (changeAtom q i b)
+    → (t ∈ terms q) ⊎ (t ∈ args b)
 unfolding changeAtom
 change-terms q i a b u e t m =
     elim (terms-cases (changeAtom q i b) m) [
       | inl n ↦ inl (terms-answers q n)
-      | inr w ↦ elim (change-mem q i a b u e (w .0) .0 (w .1)) [ inl d ↦ inr (subst (λ c. t ∈ args c) d (w .2)) | inr s ↦ inl (terms-atoms q (s .0) (w .2)) ]
+      | inr w ↦ elim (change-mem q i a b u e (w .0) .0 (w .1)) [
+        | inl d ↦ inr (subst (λ c. t ∈ args c) d (w .2))
+        | inr s ↦ inl (terms-atoms q (s .0) (w .2))
+      ]
     ]
 
 module _ (p q : Query) (r : Alike p q) where
@@ -54,7 +61,8 @@ module _ (p q : Query) (r : Alike p q) where
   standing-image v a m n =
       count-image (rename (r .to)) (sameTerm (var (r .to v))) (sameTerm (var v)) a
       (λ t k. same-test (sameTerm (var (r .to v)) (rename (r .to) t)) (sameTerm (var v) t) (
-        λ x. sameTerm-iff (var v) t .1 (rename-injective p q r (var v) t m (terms-atoms p n k) (sameTerm-iff (var (r .to v)) (rename (r .to) t) .0 x)),
+        λ x. sameTerm-iff (var v) t .1
+            (rename-injective p q r (var v) t m (terms-atoms p n k) (sameTerm-iff (var (r .to v)) (rename (r .to) t) .0 x)),
         λ x. sameTerm-iff (var (r .to v)) (rename (r .to) t) .1 (ap (rename (r .to)) (sameTerm-iff (var v) t .0 x)),
       ))
 
@@ -64,7 +72,8 @@ module _ (p q : Query) (r : Alike p q) where
       let s = Memᴰ·of-map (rename (r .to)) (p .answers) (mem-along (sym (r .on-answers)) n) in
       unbound-answers p v x (Memᴰ·cast (sym (rename-injective p q r (s .0) (var v) (terms-answers p (s .1)) m (s .2))) (s .1))
 
-  unbound-atom : (v : ℕ) (a b : Atom Term) → T (unbound p (var v)) → a ∈ p .atoms → var v ∈ args a → b ∈ q .atoms → var (r .to v) ∈ args b → b ≡ mapAtom (rename (r .to)) a
+  unbound-atom : (v : ℕ) (a b : Atom Term) → T (unbound p (var v)) → a ∈ p .atoms → var v ∈ args a → b ∈ q .atoms → var (r .to v) ∈ args b
+      → b ≡ mapAtom (rename (r .to)) a
   unbound-atom v a b x m n k l =
       let c = r .onto b k in
       let s = args-map (rename (r .to)) (c .0) (subst (λ z. var (r .to v) ∈ args z) (sym (c .2)) l) in
@@ -90,7 +99,8 @@ module _ (p q : Query) (r : Alike p q) where
           elim (either (unbound q (var (r .to v)))) [
             | inl y ↦ y
             | inr f ↦
-                (let w = bound-elsewhere q (r .to v) (k .0) (mapAtom (rename (r .to)) a) (k .1) f (standing-image v a stands m ∙ one) (unbound-answer v x stands) in
+                (let w = bound-elsewhere q (r .to v) (k .0) (mapAtom (rename (r .to)) a) (k .1) f (standing-image v a stands m
+                ∙ one) (unbound-answer v x stands) in
                 let e : w .1 ≡ mapAtom (rename (r .to)) a = unbound-atom v a (w .1) x m n (at-mem (q .atoms) (w .0) (w .2)) (w .4) in
                 absurd (w .3 (unrepeated-at (q .atoms) u (w .0) (k .0) (w .2 ∙ ap some e) (k .1))))
           ]
@@ -141,11 +151,15 @@ module _ (p q : Query) (r : Alike p q) where
       on-answers = map-agree (rename extended) (rename (r .to)) (p .answers) (λ t m. rename-old t (terms-answers p m)) ∙ r .on-answers;
       into = λ c m. in-q (image c) .1 (elim (in-p c .0 m) [
         | inl d ↦ inl (ap image d)
-        | inr s ↦ inr (Memᴰ·cast (image-old c (s .0)) (r .into c (s .0)), λ d. s .1 (image-injective p q r c a (s .0) (at-mem (p .atoms) i e) (sym (image-old c (s .0)) ∙ d)))
+        | inr s ↦ inr (
+          Memᴰ·cast (image-old c (s .0)) (r .into c (s .0)),
+          λ d. s .1 (image-injective p q r c a (s .0) (at-mem (p .atoms) i e) (sym (image-old c (s .0)) ∙ d)),
+        )
       ]);
       onto = λ d m. elim (in-q d .0 m) [
         | inl k ↦ (b, in-p b .1 (inl refl), sym k)
-        | inr s ↦ (let c = r .onto d (s .0) in (c .0, in-p (c .0) .1 (inr (c .1, λ k. s .1 (sym (c .2) ∙ ap (mapAtom (rename (r .to))) k))), image-old (c .0) (c .1) ∙ c .2))
+        | inr s ↦ (let c = r .onto d (s .0) in
+            (c .0, in-p (c .0) .1 (inr (c .1, λ k. s .1 (sym (c .2) ∙ ap (mapAtom (rename (r .to))) k))), image-old (c .0) (c .1) ∙ c .2))
       ];
     }
       where
@@ -155,7 +169,8 @@ module _ (p q : Query) (r : Alike p q) where
         in-p : (c : Atom Term) → (c ∈ changeAtom p i b .atoms) ↔ ((c ≡ b) ⊎ ((c ∈ p .atoms) × (c ≢ a)))
         in-p = change-mem p i a b up e
 
-        in-q : (c : Atom Term) → (c ∈ changeAtom q j (image b) .atoms) ↔ ((c ≡ image b) ⊎ ((c ∈ q .atoms) × (c ≢ mapAtom (rename (r .to)) a)))
+        in-q : (c : Atom Term) → (c ∈ changeAtom q j (image b) .atoms)
+            ↔ ((c ≡ image b) ⊎ ((c ∈ q .atoms) × (c ≢ mapAtom (rename (r .to)) a)))
         in-q = change-mem q j (mapAtom (rename (r .to)) a) (image b) uq f
 
         old : (v : ℕ) → var v ∈ terms (changeAtom p i b) → (var v ∈ terms p) ⊎ (v ≡ fresh p)
@@ -166,13 +181,15 @@ module _ (p q : Query) (r : Alike p q) where
             ]
 
     -- the same rule on the atom's image
-    pub rule-respected : (rules : List Rule) (i k : ℕ) (s : Query) → ruleStep rules p i k ≡ some s → (j : ℕ) × (t : Query) × (ruleStep rules q j k ≡ some t) × Alike s t
+    pub rule-respected : (rules : List Rule) (i k : ℕ) (s : Query) → ruleStep rules p i k ≡ some s
+        → (j : ℕ) × (t : Query) × (ruleStep rules q j k ≡ some t) × Alike s t
     rule-respected rules i k s e =
         let w = ruleStep-iff rules p i k s .0 e in
         let b = mapAtom (rename extended) (w .2) in
         let m = at-mem (p .atoms) i (w .4) in
         let j = mem-at (r .into (w .1) m) in
-        let c = rewrite-image p q (rename (r .to)) (rename extended) (unbound-term uq) (ap var extended-fresh) (w .0) (w .1) (w .2) (λ t n. rename-old t (terms-atoms p m n)) (w .5) in (
+        let c = rewrite-image p q (rename (r .to)) (rename extended) (unbound-term uq) (ap var extended-fresh) (w .0) (w .1) (w .2)
+        (λ t n. rename-old t (terms-atoms p m n)) (w .5) in (
           j .0,
           changeAtom q (j .0) b,
           ruleStep-iff rules q (j .0) k (changeAtom q (j .0) b) .1 (w .0, mapAtom (rename (r .to)) (w .1), b, w .3, j .1, c .0, refl),

@@ -9,10 +9,12 @@ use mathlib.Core.Option.{some}
 use mathlib.Core.List.{List·Memᴰ·head, List·Memᴰ·tail, List·Memᴰ·cases-cons, List·Memᴰ·eq-of-singleton, Memᴰ·cast}
 use lib.Dec.{T, eqb}
 use Rattle.theory.specs.Lists.{_∈_, At, guard, andThen, count}
-use Rattle.theory.specs.Syntax.{Term, var, const, Atom, concept, role, Basic, named, has, hasInverse, Rule, conceptInclusion, roleInclusion, Query, Thing, object, null, args, terms, mapAtom, value, instance, oriented, sameTerm}
+use Rattle.theory.specs.Syntax.{Term, var, const, Atom, concept, role, Basic, named, has, hasInverse, Rule, conceptInclusion}
+use Rattle.theory.specs.Syntax.{roleInclusion, Query, Thing, object, null, args, terms, mapAtom, value, instance, oriented, sameTerm}
 use Rattle.theory.specs.Chase.{Held, Concludes}
 use Rattle.theory.specs.Rewriting.{unbound, fresh, bearer, rewriteAtom}
-use Rattle.theory.specs.Laws.Options.{T-and, T-eqb, is-true, is-false, either, guard-some, guard-true, andThen-some, andThen-at, some-inj, none≢some}
+use Rattle.theory.specs.Laws.Options.{T-and, T-eqb, is-true, is-false, either, guard-some, guard-true, andThen-some, andThen-at}
+use Rattle.theory.specs.Laws.Options.{some-inj, none≢some}
 use Rattle.theory.specs.Laws.Lists.{here, at-mem}
 use Rattle.theory.specs.Laws.Syntax.{update, update-same, send-update, sameTerm-iff, mapAtom-agree, terms-atoms}
 use Rattle.theory.specs.Laws.Unbound.{standing, unbound-answers, unbound-elsewhere, unbound-once}
@@ -46,7 +48,8 @@ module _ {X : Type 0} where
   instance-args : (B : Basic) (x y z : X) → z ∈ args (instance B x y) → (z ≡ x) ⊎ ((¬ Plain B) × (z ≡ y))
   instance-args (named A) x y z m = inl (List·Memᴰ·eq-of-singleton m)
   instance-args (has P) x y z m = elim (List·Memᴰ·cases-cons m) [ inl e ↦ inl e | inr n ↦ inr (λ p. p, List·Memᴰ·eq-of-singleton n) ]
-  instance-args (hasInverse P) x y z m = elim (List·Memᴰ·cases-cons m) [ inl e ↦ inr (λ p. p, e) | inr n ↦ inl (List·Memᴰ·eq-of-singleton n) ]
+  instance-args (hasInverse P) x y z m =
+      elim (List·Memᴰ·cases-cons m) [ inl e ↦ inr (λ p. p, e) | inr n ↦ inl (List·Memᴰ·eq-of-singleton n) ]
 
 mapAtom-instance : {X Y : Type 0} (f : X → Y) (B : Basic) (x y : X) → mapAtom f (instance B x y) ≡ instance B (f x) (f y)
 mapAtom-instance f (named A) x y = refl
@@ -79,7 +82,8 @@ instance-image f (hasInverse P) (role Q t s) x y e = (s, t, (let d : Q ≡ P = c
 -- ---- the term of which an atom says a description
 
 -- a role atom whose other term is unbound
-bearer-role : (q : Query) (P Q : ℕ) (s u : Term) {t : Term} → guard (eqb P Q && unbound q u) s ≡ some t → (P ≡ Q) × (s ≡ t) × T (unbound q u)
+bearer-role : (q : Query) (P Q : ℕ) (s u : Term) {t : Term} → guard (eqb P Q && unbound q u) s ≡ some t
+    → (P ≡ Q) × (s ≡ t) × T (unbound q u)
 bearer-role q P Q s u e =
     let g = guard-some (eqb P Q && unbound q u) e in
     let w = T-and (eqb P Q) (unbound q u) .0 (g .0) in
@@ -92,15 +96,19 @@ bearer-some q (named A) (concept B s) {t} e =
     let g = guard-some (eqb A B) e in let d : A ≡ B = T-eqb A B .0 (g .0) in let f : s ≡ t = g .1 in (t, cc, inl tt)
 bearer-some q (named A) (role Q s u) e = absurd (none≢some e)
 bearer-some q (has P) (concept B s) e = absurd (none≢some e)
-bearer-some q (has P) (role Q s u) {t} e = let w = bearer-role q P Q s u e in let d : P ≡ Q = w .0 in let f : s ≡ t = w .1 in (u, cc, inr (λ p. p, w .2))
+bearer-some q (has P) (role Q s u) {t} e =
+    let w = bearer-role q P Q s u e in let d : P ≡ Q = w .0 in let f : s ≡ t = w .1 in (u, cc, inr (λ p. p, w .2))
 bearer-some q (hasInverse P) (concept B s) e = absurd (none≢some e)
-bearer-some q (hasInverse P) (role Q u s) {t} e = let w = bearer-role q P Q s u e in let d : P ≡ Q = w .0 in let f : s ≡ t = w .1 in (u, cc, inr (λ p. p, w .2))
+bearer-some q (hasInverse P) (role Q u s) {t} e =
+    let w = bearer-role q P Q s u e in let d : P ≡ Q = w .0 in let f : s ≡ t = w .1 in (u, cc, inr (λ p. p, w .2))
 
 bearer-of : (q : Query) (B : Basic) (t u : Term) → Plain B ⊎ T (unbound q u) → bearer q B (instance B t u) ≡ some t
 unfolding bearer
 bearer-of q (named A) t u p = guard-true (eqb A A) (T-eqb A A .1 refl)
-bearer-of q (has P) t u p = guard-true (eqb P P && unbound q u) (T-and (eqb P P) (unbound q u) .1 (T-eqb P P .1 refl, elim p [ inl x ↦ absurd x | inr y ↦ y ]))
-bearer-of q (hasInverse P) t u p = guard-true (eqb P P && unbound q u) (T-and (eqb P P) (unbound q u) .1 (T-eqb P P .1 refl, elim p [ inl x ↦ absurd x | inr y ↦ y ]))
+bearer-of q (has P) t u p =
+    guard-true (eqb P P && unbound q u) (T-and (eqb P P) (unbound q u) .1 (T-eqb P P .1 refl, elim p [ inl x ↦ absurd x | inr y ↦ y ]))
+bearer-of q (hasInverse P) t u p =
+    guard-true (eqb P P && unbound q u) (T-and (eqb P P) (unbound q u) .1 (T-eqb P P .1 refl, elim p [ inl x ↦ absurd x | inr y ↦ y ]))
 
 -- ---- the facts in which a rule's nulls come up
 
@@ -135,7 +143,8 @@ Concluded q H i k r a h =
     × ((j : ℕ) (c : Atom Term) → At (q .atoms) j c → j ≢ i → mapAtom (value h′) c ≡ mapAtom (value h) c)
 
 -- an unbound variable u of the atom at i may be sent anywhere: nothing else that stands in q changes
-update-unbound : (q : Query) (i u : ℕ) (a : Atom Term) (h : ℕ → Thing) (y : Thing) → At (q .atoms) i a → T (unbound q (var u)) → var u ∈ args a
+update-unbound : (q : Query) (i u : ℕ) (a : Atom Term) (h : ℕ → Thing) (y : Thing) → At (q .atoms) i a → T (unbound q (var u))
+    → var u ∈ args a
     → ((t : Term) → t ∈ q .answers → value (update h u y) t ≡ value h t)
     × ((j : ℕ) (c : Atom Term) → At (q .atoms) j c → j ≢ i → mapAtom (value (update h u y)) c ≡ mapAtom (value h) c)
 update-unbound q i u a h y at un m = (
@@ -154,7 +163,8 @@ instance-once q i u (named A) n un at = n tt
 instance-once q i u (has P) n un at = unbound-once q u i P un at
 instance-once q i u (hasInverse P) n un at = unbound-once q u i P un at
 
-instance-sound : (q : Query) (H : Held) (i k : ℕ) (left right : Basic) (t u : Term) (z : ℕ) (h : ℕ → Thing) → At (q .atoms) i (instance right t u)
+instance-sound : (q : Query) (H : Held) (i k : ℕ) (left right : Basic) (t u : Term) (z : ℕ) (h : ℕ → Thing)
+    → At (q .atoms) i (instance right t u)
     → Plain right ⊎ ((¬ Plain right) × T (unbound q u)) → H (mapAtom (value h) (instance left t (var z)))
     → Concluded q H i k (conceptInclusion left right) (instance right t u) h
 instance-sound q H i k left right t u z h at (inl p) holds = (
@@ -175,7 +185,8 @@ instance-sound q H i k left right t (var x) z h at (inr w) holds = (
     value h t,
     h z,
     subst H (mapAtom-instance (value h) left t (var z)) holds,
-    mapAtom-instance (value (update h x new)) right t (var x) ∙ ap₂ (instance right) (send-update object h x new t apart) (update-same h x new),
+    mapAtom-instance (value (update h x new)) right t (var x)
+        ∙ ap₂ (instance right) (send-update object h x new t apart) (update-same h x new),
   ),
   rest .0,
   rest .1,
@@ -205,7 +216,8 @@ rewrite-concludes q H i k (roleInclusion left exchanged right) (role Q t u) b h 
     let g = guard-some (eqb right Q) e in
     (h, go exchanged (T-eqb right Q .0 (g .0)) (subst (λ c. H (mapAtom (value h) c)) (sym (g .1)) holds), λ s m. refl, λ j c atc d. refl)
   where
-    go : (x : Bool) → right ≡ Q → H (mapAtom (value h) (oriented x left t u)) → Concludes H k (roleInclusion left x right) (role Q (value h t) (value h u))
+    go : (x : Bool) → right ≡ Q → H (mapAtom (value h) (oriented x left t u))
+        → Concludes H k (roleInclusion left x right) (role Q (value h t) (value h u))
     go false d held = (value h t, value h u, held, ap (λ R. role R (value h t) (value h u)) (sym d))
     go true d held = (value h u, value h t, held, ap (λ R. role R (value h t) (value h u)) (sym d))
 
@@ -237,8 +249,16 @@ null-grows k (null j c) e =
 standing-instance : (B : Basic) (t : Term) (u : ℕ) → ¬ Plain B → t ≢ var u → standing u (instance B t (var u)) ≡ 1
 unfolding count
 standing-instance (named A) t u n d = absurd (n tt)
-standing-instance (has P) t u n d = rw (is-false (sameTerm (var u) t) (λ x. d (sym (sameTerm-iff (var u) t .0 x))), is-true (sameTerm (var u) (var u)) (sameTerm-iff (var u) (var u) .1 refl))
-standing-instance (hasInverse P) t u n d = rw (is-false (sameTerm (var u) t) (λ x. d (sym (sameTerm-iff (var u) t .0 x))), is-true (sameTerm (var u) (var u)) (sameTerm-iff (var u) (var u) .1 refl))
+standing-instance (has P) t u n d =
+    rw (
+      is-false (sameTerm (var u) t) (λ x. d (sym (sameTerm-iff (var u) t .0 x))),
+      is-true (sameTerm (var u) (var u)) (sameTerm-iff (var u) (var u) .1 refl),
+    )
+standing-instance (hasInverse P) t u n d =
+    rw (
+      is-false (sameTerm (var u) t) (λ x. d (sym (sameTerm-iff (var u) t .0 x))),
+      is-true (sameTerm (var u) (var u)) (sameTerm-iff (var u) (var u) .1 refl),
+    )
 
 -- the rule fits: its fresh variable is sent to the witness
 instance-rewritten : (q : Query) (H : Held) (left right : Basic) (t u : Term) (h : ℕ → Thing) (y : Thing) → t ∈ terms q
@@ -308,7 +328,8 @@ abbrev pub Within : Query → Atom Term → Atom Term → Type 0
 Within q a b = (t : Term) → t ∈ args b → (t ∈ args a) ⊎ (t ≡ var (fresh q))
 
 -- f keeps unbound terms unbound, and g, which agrees with f on the atom, takes the fresh variable of p to that of q
-module _ (p q : Query) (f g : Term → Term) (keeps : (t : Term) → T (unbound p t) → T (unbound q (f t))) (to-fresh : g (var (fresh p)) ≡ var (fresh q)) where
+module _ (p q : Query) (f g : Term → Term) (keeps : (t : Term) → T (unbound p t) → T (unbound q (f t))) (to-fresh : g (var (fresh p))
+    ≡ var (fresh q)) where
   pub rewrite-image : (r : Rule) (a b : Atom Term) → ((t : Term) → t ∈ args a → g t ≡ f t) → rewriteAtom p r a ≡ some b
       → (rewriteAtom q r (mapAtom f a) ≡ some (mapAtom g b)) × Within p a b
   unfolding rewriteAtom
@@ -318,20 +339,27 @@ module _ (p q : Query) (f g : Term → Term) (keeps : (t : Term) → T (unbound 
       let d : instance left (w .0) (var (fresh p)) ≡ b = some-inj (w .2) in
       let n : w .0 ∈ args a = subst (λ c. w .0 ∈ args c) (sym (s .1)) (instance-bearer right (w .0) (s .0)) in (
         fits (w .0) (s .0) (s .1) (elim (s .2) [ inl x ↦ inl x | inr x ↦ inr (keeps (s .0) (x .1)) ])
-            ∙ ap some (ap₂ (instance left) (sym (agree (w .0) n)) (sym to-fresh) ∙ sym (mapAtom-instance g left (w .0) (var (fresh p))) ∙ ap (mapAtom g) d),
-        λ t k. elim (instance-args left (w .0) (var (fresh p)) t (subst (λ c. t ∈ args c) (sym d) k)) [ inl x ↦ inl (Memᴰ·cast x n) | inr x ↦ inr (x .1) ],
+            ∙ ap some (ap₂ (instance left) (sym (agree (w .0) n)) (sym to-fresh) ∙ sym (mapAtom-instance g left (w .0) (var (fresh p)))
+            ∙ ap (mapAtom g) d),
+        λ t k. elim (instance-args left (w .0) (var (fresh p)) t (subst (λ c. t ∈ args c) (sym d) k)) [
+          | inl x ↦ inl (Memᴰ·cast x n)
+          | inr x ↦ inr (x .1)
+        ],
       )
     where
       fits : (s t : Term) → a ≡ instance right s t → Plain right ⊎ T (unbound q (f t))
-          → andThen (bearer q right (mapAtom f a)) (λ x. some (instance left x (var (fresh q)))) ≡ some (instance left (f s) (var (fresh q)))
+          → andThen (bearer q right (mapAtom f a)) (λ x. some (instance left x (var (fresh q))))
+          ≡ some (instance left (f s) (var (fresh q)))
       fits s t d x =
           andThen-at (λ x. some (instance left x (var (fresh q))))
           (ap (bearer q right) (ap (mapAtom f) d ∙ mapAtom-instance f right s t) ∙ bearer-of q right (f s) (f t) x)
   rewrite-image (roleInclusion left exchanged right) (concept B t) b agree e = absurd (none≢some e)
   rewrite-image (roleInclusion left exchanged right) (role Q s t) b agree e =
       let w = guard-some (eqb right Q) e in
-      let within : (x : Term) → x ∈ args b → x ∈ args (role Q s t) = λ x k. oriented-args exchanged left Q s t x (subst (λ c. x ∈ args c) (sym (w .1)) k) in (
+      let within : (x : Term) → x ∈ args b → x ∈ args (role Q s t) =
+      λ x k. oriented-args exchanged left Q s t x (subst (λ c. x ∈ args c) (sym (w .1)) k) in (
         guard-true (eqb right Q) (w .0)
-            ∙ ap some (sym (mapAtom-oriented f exchanged left s t) ∙ ap (mapAtom f) (w .1) ∙ sym (mapAtom-agree g f b (λ x k. agree x (within x k)))),
+            ∙ ap some (sym (mapAtom-oriented f exchanged left s t) ∙ ap (mapAtom f) (w .1)
+            ∙ sym (mapAtom-agree g f b (λ x k. agree x (within x k)))),
         λ x k. inl (within x k),
       )

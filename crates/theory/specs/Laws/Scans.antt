@@ -8,9 +8,9 @@ use native.Mathlib.Numerals.{add-one}
 use native.Mathlib.Omega.{arith}
 use mathlib.Core.Bool.{Bool, true, false, _&&_, _||_, and-false}
 use mathlib.Core.Option.{none, some}
-use mathlib.Core.List.{List, [], _∷_, map, map-map}
+use mathlib.Core.List.{List, [], _∷_, _++_, map, map-map, map-append}
 use lib.ListN.{length, getElem?, getD, take, drop, length-take, length-map, drop-of-length-le}
-use lib.Seq.{drop-cons}
+use lib.Seq.{drop-cons, take-suc, length-take-le}
 use borrow.Author.Count.{below-more}
 use Rattle.theory.specs.Lists.{At, any, all, pairwise, numbers}
 use Rattle.theory.specs.Laws.Lists.{any-map}
@@ -216,6 +216,9 @@ module _ {X : Type 0} (f : ℕ → X) (words : List ℕ) (n : ℕ) where
     pub records-listed : map f (take n words) ≡ map (λ k. f (getD words k 0)) (numbers 0 n)
     records-listed = simp zero-add at (ap (map f) (listed words 0 n (omega arith)) ∙ map-map f (λ i. getD words (0 + i) 0) (numbers 0 n))
 
+    pub records-length : length (map f (take n words)) ≡ n
+    records-length = length-map (take n words) f ∙ length-take-le n words h
+
     pub record-at : (i : ℕ) → i < n → At (map f (take n words)) i (f (getD words i 0))
     record-at i l = ap (λ xs. getElem? xs i) records-listed ∙ place-at (λ k. f (getD words k 0)) n i l
 
@@ -233,6 +236,12 @@ module _ {X : Type 0} (f : ℕ → X) (words : List ℕ) (n : ℕ) where
     pub total-records : (w : X → ℕ) → totalFrom (λ k. w (f (getD words k 0))) 0 n ≡ total w (map f (take n words))
     total-records w = total-places (λ k. f (getD words k 0)) n w ∙ ap (total w) (sym records-listed)
 
+  -- one record more than n
+  pub first-more : n < length words → map f (take (n + 1) words) ≡ map f (take n words) ++ (f (getD words n 0) ∷ [])
+  first-more h =
+      ap (λ k. map f (take k words)) (add-one n) ∙ ap (map f) (take-suc words n 0 h)
+      ∙ map-append f (take n words) (getD words n 0 ∷ [])
+
   pub records-nil : (i : ℕ) → n ≤ i → drop i (map f (take n words)) ≡ []
   records-nil i h = drop-of-length-le (map f (take n words)) {i = i} (simp (length-map, length-take) (omega arith))
 
@@ -246,12 +255,17 @@ module _ {X : Type 0} (f : ℕ → X) (words : List ℕ) (n : ℕ) where
 
 -- two tables side by side
 module _ {X Y : Type 0} (test : X → Y → Bool) where
-  pub pairwise-lengths : (xs : List X) (ys : List Y) → length xs ≢ length ys → pairwise test xs ys ≡ false
+  pairwise-lengths : (xs : List X) (ys : List Y) → length xs ≢ length ys → pairwise test xs ys ≡ false
   unfolding pairwise
   pairwise-lengths [] [] d = absurd (d refl)
   pairwise-lengths [] (y ∷ ys) d = refl
   pairwise-lengths (x ∷ xs) [] d = refl
   pairwise-lengths (x ∷ xs) (y ∷ ys) d = ap (λ b. test x y && b) (pairwise-lengths xs ys (λ e. d (ap suc e))) ∙ and-false (test x y)
+
+  pub unequal-records : (f : ℕ → X) (g : ℕ → Y) (a b : List ℕ) (m n : ℕ) → m ≤ length a → n ≤ length b → (m ≡ n → ⊥)
+      → false ≡ pairwise test (map f (take m a)) (map g (take n b))
+  unequal-records f g a b m n h l d =
+      sym (pairwise-lengths (map f (take m a)) (map g (take n b)) (λ e. d (sym (records-length f a m h) ∙ e ∙ records-length g b n l)))
 
   pub all-pairs : (f : ℕ → X) (g : ℕ → Y) (a b : List ℕ) (n : ℕ) → n ≤ length a → n ≤ length b
       → allFrom (λ k. test (f (getD a k 0)) (g (getD b k 0))) 0 n ≡ pairwise test (map f (take n a)) (map g (take n b))
@@ -269,3 +283,6 @@ module _ {X Y : Type 0} (test : X → Y → Bool) where
 
 -- `some-begins` is not among them: as an equation it would rewrite the invariants
 pub ruleset scans = (some-later, some-found, some-none, all-later, all-fails, all-passed, total-later, total-done)
+
+-- with it, for loops whose outcome is said of all numbers below n
+pub ruleset numberScans = (scans, some-begins)

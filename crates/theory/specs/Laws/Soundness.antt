@@ -22,7 +22,8 @@ use Rattle.theory.specs.Laws.Chase.{answer-through}
 substitute-sound : (H : Held) (q : Query) (σ : ℕ → Term) (tuple : List ℕ) → Answer H (substitute σ q) tuple → Answer H q tuple
 unfolding substitute
 substitute-sound H q σ tuple w =
-    answer-through H q (substitute σ q) (subst-term σ) (λ v. value (w .match) (σ v)) tuple (λ a m. mem-substitute σ q m) refl w (send-subst object (w .match) σ)
+    answer-through H q (substitute σ q) (subst-term σ) (λ v. value (w .match) (σ v)) tuple (λ a m. mem-substitute σ q m) refl w
+    (send-subst object (w .match) σ)
 
 pub merge-sound : (H : Held) (q r : Query) (i j : ℕ) (tuple : List ℕ) → mergeStep q i j ≡ some r → Answer H r tuple → Answer H q tuple
 merge-sound H q r i j tuple e w =
@@ -45,11 +46,19 @@ module _ (rules : List Rule) (facts : List Fact) (n : ℕ) (q : Query) where
       h = w .match
 
       c : Concluded q (Round rules facts n) i k ρ a h
-      c = rewrite-concludes q (Round rules facts n) i k ρ a b h ati e (w .holds b (mem-keepOnce (at-mem (set (q .atoms) i b) i (set-at (q .atoms) i b ati))))
+      c =
+          rewrite-concludes q (Round rules facts n) i k ρ a b h ati e
+          (w .holds b (mem-keepOnce (at-mem (set (q .atoms) i b) i (set-at (q .atoms) i b ati))))
 
       atom : (x : Atom Term) (j : ℕ) → At (q .atoms) j x → Dec (j ≡ i) → Round rules facts (suc n) (mapAtom (value (c .0)) x)
       atom x j atj (yes d) =
-          inr (k, ρ, atk, subst (λ y. Concludes (Round rules facts n) k ρ (mapAtom (value (c .0)) y)) (at-equal (q .atoms) (sym d) ati atj) (c .1))
+          inr (
+            k,
+            ρ,
+            atk,
+            subst (λ y. Concludes (Round rules facts n) k ρ (mapAtom (value (c .0)) y)) (at-equal (q .atoms) (sym d) ati atj)
+                (c .1),
+          )
       atom x j atj (no d) =
           inl (subst (Round rules facts n) (sym (c .3 j x atj d))
           (w .holds x (mem-keepOnce (at-mem (set (q .atoms) i b) j (set-elsewhere (q .atoms) i j b d ∙ atj)))))

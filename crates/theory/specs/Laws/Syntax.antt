@@ -4,10 +4,12 @@ use mathlib.Core.Logic.{_⊎_, inl, inr, _↔_, _≢_}
 use Prim.Native.Nat.{ℕ}
 use native.Mathlib.Omega.{arith}
 use mathlib.Core.Bool.{Bool, _&&_}
-use mathlib.Core.List.{List, [], _∷_, _++_, map, flatMap, List·Memᴰ·tail, List·Memᴰ·append-cases, Memᴰ·append-left, Memᴰ·append-right, Memᴰ·map, Memᴰ·of-map}
+use mathlib.Core.List.{List, [], _∷_, _++_, map, flatMap, List·Memᴰ·tail, List·Memᴰ·append-cases, Memᴰ·append-left, Memᴰ·append-right}
+use mathlib.Core.List.{Memᴰ·map, Memᴰ·of-map}
 use lib.Dec.{T, eqb}
 use Rattle.theory.specs.Lists.{_∈_, Unrepeated, pick}
-use Rattle.theory.specs.Syntax.{Term, var, const, Atom, concept, role, Query, args, places, terms, mapAtom, send, subst-term, rename, sameTerm, onAtoms, sameAtom}
+use Rattle.theory.specs.Syntax.{Term, var, const, Atom, concept, role, Query, args, places, terms, mapAtom, send, subst-term, rename}
+use Rattle.theory.specs.Syntax.{sameTerm, onAtoms, sameAtom}
 use Rattle.theory.specs.Rewriting.{keepOnce, substitute}
 use Rattle.theory.specs.Laws.Options.{T-and, T-eqb, pick-true, pick-false}
 use Rattle.theory.specs.Laws.Lists.{here, mem-along, once-mem, mem-once, once-unrepeated, flatMap-found, flatMap-of}
@@ -36,12 +38,14 @@ onAtoms-iff test (concept A x) (concept B y) = (
 onAtoms-iff test (concept A x) (role Q y y′) = (λ t. t, λ r. r)
 onAtoms-iff test (role P x x′) (concept B y) = (λ t. t, λ r. r)
 onAtoms-iff test (role P x x′) (role Q y y′) = (
-  λ t. let s = T-and (eqb P Q && test x y) (test x′ y′) .0 t in let r = T-and (eqb P Q) (test x y) .0 (s .0) in (T-eqb P Q .0 (r .0), r .1, s .1),
+  λ t. let s = T-and (eqb P Q && test x y) (test x′ y′) .0 t in let r = T-and (eqb P Q) (test x y) .0 (s .0) in
+      (T-eqb P Q .0 (r .0), r .1, s .1),
   λ r. T-and (eqb P Q && test x y) (test x′ y′) .1 (T-and (eqb P Q) (test x y) .1 (T-eqb P Q .1 (r .0), r .1), r .2),
 )
 
 -- they stay so where the one relation gives the other
-pub onAtoms-within : {X Y : Type 0} {R S : X → Y → Type 0} (a : Atom X) (b : Atom Y) → ((x : X) (y : Y) → x ∈ args a → R x y → S x y) → OnAtoms R a b → OnAtoms S a b
+pub onAtoms-within : {X Y : Type 0} {R S : X → Y → Type 0} (a : Atom X) (b : Atom Y) → ((x : X) (y : Y) → x ∈ args a → R x y → S x y)
+    → OnAtoms R a b → OnAtoms S a b
 onAtoms-within (concept A x) (concept B y) h r = (r .0, h x y here (r .1))
 onAtoms-within (concept A x) (role Q y y′) h r = r
 onAtoms-within (role P x x′) (concept B y) h r = r
@@ -127,7 +131,8 @@ module _ {X Y Z : Type 0} (g : Y → Z) (f : X → Y) where
   pub mapAtom-after : (k : X → Z) (a : Atom X) → ((x : X) → x ∈ args a → g (f x) ≡ k x) → mapAtom g (mapAtom f a) ≡ mapAtom k a
   mapAtom-after k a h = mapAtom-mapAtom a ∙ mapAtom-agree (λ x. g (f x)) k a h
 
-pub mapAtom-rename : {X : Type 0} (self h : ℕ → X) (f : ℕ → ℕ) (a : Atom Term) → mapAtom (send self h) (mapAtom (rename f) a) ≡ mapAtom (send self (λ v. h (f v))) a
+pub mapAtom-rename : {X : Type 0} (self h : ℕ → X) (f : ℕ → ℕ) (a : Atom Term) → mapAtom (send self h) (mapAtom (rename f) a)
+    ≡ mapAtom (send self (λ v. h (f v))) a
 mapAtom-rename self h f a = mapAtom-after (send self h) (rename f) (send self (λ v. h (f v))) a (λ t m. send-rename self h f t)
 
 -- ---- what stands where
@@ -155,7 +160,8 @@ pub terms-cases : (q : Query) {t : Term} → t ∈ terms q → (t ∈ q .answers
 terms-cases q m = elim (List·Memᴰ·append-cases (q .answers) m) [ inl h ↦ inl h | inr h ↦ inr (places-mem (q .atoms) h) ]
 
 -- where the answer terms and the atoms of q are images of those of p, so are all its terms
-pub terms-from : (p q : Query) (f : Term → Term) → map f (p .answers) ≡ q .answers → ((b : Atom Term) → b ∈ q .atoms → (a : Atom Term) × (a ∈ p .atoms) × (mapAtom f a ≡ b))
+pub terms-from : (p q : Query) (f : Term → Term) → map f (p .answers) ≡ q .answers
+    → ((b : Atom Term) → b ∈ q .atoms → (a : Atom Term) × (a ∈ p .atoms) × (mapAtom f a ≡ b))
     → {t : Term} → t ∈ terms q → (s : Term) × (s ∈ terms p) × (f s ≡ t)
 terms-from p q f on onto {t} m =
     elim (terms-cases q m) [

@@ -12,14 +12,17 @@ use Rattle.theory.specs.Syntax.{Term, var, Atom, role, Query, args, plac
 use Rattle.theory.specs.Rewriting.{unbound}
 use Rattle.theory.specs.Laws.Options.{T-and, T-no, T-eqb}
 use Rattle.theory.specs.Laws.Lists.{here, any-same}
-use Rattle.theory.specs.Laws.Counting.{AtOne, total, total-at, total-two, total-more, count-append, count-flatMap, count-same, count-once}
+use Rattle.theory.specs.Laws.Counting.{AtOne, total, total-at, total-two, total-more, count-append, count-flatMap, count-same}
+use Rattle.theory.specs.Laws.Counting.{count-once}
 use Rattle.theory.specs.Laws.Syntax.{sameTerm-iff, places-flatMap}
 
 -- unbound exactly where the variable is counted once and is no answer term
-unbound-count : (q : Query) (v : ℕ) → T (unbound q (var v)) ↔ ((count (sameTerm (var v)) (places (q .atoms)) ≡ 1) × (¬ (var v ∈ q .answers)))
+unbound-count : (q : Query) (v : ℕ) → T (unbound q (var v))
+    ↔ ((count (sameTerm (var v)) (places (q .atoms)) ≡ 1) × (¬ (var v ∈ q .answers)))
 unfolding unbound
 unbound-count q v = (
-  λ t. let s = T-and (eqb n 1) (not a) .0 t in (T-eqb n 1 .0 (s .0), λ m. T-no a .0 (s .1) (any-same sameTerm sameTerm-iff (var v) (q .answers) .1 m)),
+  λ t. let s = T-and (eqb n 1) (not a) .0 t in
+      (T-eqb n 1 .0 (s .0), λ m. T-no a .0 (s .1) (any-same sameTerm sameTerm-iff (var v) (q .answers) .1 m)),
   λ s. T-and (eqb n 1) (not a) .1 (T-eqb n 1 .1 (s .0), T-no a .1 (λ t. s .1 (any-same sameTerm sameTerm-iff (var v) (q .answers) .0 t))),
 )
   where
@@ -55,7 +58,8 @@ pub unbound-total : (q : Query) (u : ℕ) → T (unbound q (var u)) → total (s
 unbound-total q u t = sym (count-places (sameTerm (var u)) (q .atoms)) ∙ unbound-count q u .0 t .0
 
 -- it stands in no two atoms, and not twice in one
-pub unbound-elsewhere : (q : Query) (u i j : ℕ) (a b : Atom Term) → T (unbound q (var u)) → At (q .atoms) i a → At (q .atoms) j b → var u ∈ args a → var u ∈ args b → i ≡ j
+pub unbound-elsewhere : (q : Query) (u i j : ℕ) (a b : Atom Term) → T (unbound q (var u)) → At (q .atoms) i a → At (q .atoms) j b
+    → var u ∈ args a → var u ∈ args b → i ≡ j
 unbound-elsewhere q u i j a b t e f m n =
     elim (ℕ-discrete i j) [
       | yes k ↦ k
@@ -71,12 +75,14 @@ pub unbound-once : (q : Query) (u i P : ℕ) → T (unbound q (var u)) → At (q
 unbound-once q u i P t e =
     let all : total (standing u) (q .atoms) ≡ 1 = unbound-total q u t in
     let h : standing u (role P (var u) (var u)) ≤ total (standing u) (q .atoms) = total-at (standing u) (q .atoms) i e in
-    let two : standing u (role P (var u) (var u)) ≡ count (sameTerm (var u)) (var u ∷ []) + count (sameTerm (var u)) (var u ∷ []) = count-append (sameTerm (var u)) (var u ∷ []) (var u ∷ []) in
+    let two : standing u (role P (var u) (var u)) ≡ count (sameTerm (var u)) (var u ∷ []) + count (sameTerm (var u)) (var u ∷ []) =
+    count-append (sameTerm (var u)) (var u ∷ []) (var u ∷ []) in
     let one : 0 < count (sameTerm (var u)) (var u ∷ []) = count-same sameTerm sameTerm-iff (var u) (var u ∷ []) .1 here in
     omega arith
 
 -- a variable that is not unbound though it is no answer term and stands once in an atom stands in another atom too
-pub bound-elsewhere : (q : Query) (u i : ℕ) (a : Atom Term) → At (q .atoms) i a → ¬ T (unbound q (var u)) → standing u a ≡ 1 → ¬ (var u ∈ q .answers) → (j : ℕ) × (b : Atom Term) × At (q .atoms) j b × (j ≢ i) × (var u ∈ args b)
+pub bound-elsewhere : (q : Query) (u i : ℕ) (a : Atom Term) → At (q .atoms) i a → ¬ T (unbound q (var u)) → standing u a ≡ 1
+    → ¬ (var u ∈ q .answers) → (j : ℕ) × (b : Atom Term) × At (q .atoms) j b × (j ≢ i) × (var u ∈ args b)
 bound-elsewhere q u i a e f o n =
     let h : standing u a ≤ total (standing u) (q .atoms) = total-at (standing u) (q .atoms) i e in
     let d : total (standing u) (q .atoms) ≢ 1 = λ k. f (unbound-count q u .1 (count-places (sameTerm (var u)) (q .atoms) ∙ k, n)) in

@@ -12,17 +12,22 @@ use Rattle.theory.specs.Lists.{pick}
 use Rattle.theory.specs.Syntax.{Term, var, const, Atom, concept, role, mapAtom, send, subst-term}
 use Rattle.theory.specs.Rewriting.{replace, after, join, bind, unify}
 use Rattle.theory.specs.Union.{Unifiable}
-use Rattle.theory.specs.Laws.Options.{found-pick, found-andThen, T-eqb, pick-some, some-inj, none≢some, guard-some, guard-true, andThen-some}
+use Rattle.theory.specs.Laws.Options.{found-pick, found-andThen, T-eqb, pick-some, some-inj, none≢some, guard-some, guard-true}
+use Rattle.theory.specs.Laws.Options.{andThen-some}
 use Rattle.theory.specs.Laws.Syntax.{update, update-same, update-other, send-subst, subst-var}
 
 -- What holds of what `join` gives: of σ where the terms are one, and of σ with a variable replaced by the other term.
-join-by : (P : (ℕ → Term) → Type 0) (σ : ℕ → Term) (s t : Term) {τ : ℕ → Term} → join σ s t ≡ some τ → (s ≡ t → P σ) → ((v : ℕ) → s ≡ var v → P (after σ v t)) → ((v : ℕ) → t ≡ var v → P (after σ v s)) → P τ
+join-by : (P : (ℕ → Term) → Type 0) (σ : ℕ → Term) (s t : Term) {τ : ℕ → Term} → join σ s t ≡ some τ → (s ≡ t → P σ)
+    → ((v : ℕ) → s ≡ var v → P (after σ v t)) → ((v : ℕ) → t ≡ var v → P (after σ v s)) → P τ
 unfolding join
 join-by P σ (const c) (const d) e same left right = let g = guard-some (eqb c d) e in subst P (g .1) (same (ap const (T-eqb c d .0 (g .0))))
 join-by P σ (const c) (var v) e same left right = subst P (some-inj e) (right v refl)
 join-by P σ (var u) (const d) e same left right = subst P (some-inj e) (left u refl)
 join-by P σ (var u) (var v) e same left right =
-    subst P (some-inj e) (elim (leb u v) as (λ b. P (pick b (after σ v (var u)) (after σ u (var v)))) [ true ↦ right v refl | false ↦ left u refl ])
+    subst P (some-inj e) (elim (leb u v) as (λ b. P (pick b (after σ v (var u)) (after σ u (var v)))) [
+      | true ↦ right v refl
+      | false ↦ left u refl
+    ])
 
 -- ---- the atoms are made equal
 
@@ -69,7 +74,8 @@ unify-equal (role P s s′) (role Q t t′) {σ} e =
     let d : P ≡ Q = T-eqb P Q .0 (g .0) in
     let m = andThen-some (bind var s t) (g .1) in
     let further = bind-equal (m .0) s′ t′ (m .2) in
-    let f : subst-term σ s ≡ subst-term σ t = further .1 s ∙ ap (subst-term (further .0)) (further-equal var s t (bind-equal var s t (m .1))) ∙ sym (further .1 t) in
+    let f : subst-term σ s ≡ subst-term σ t = further .1 s
+    ∙ ap (subst-term (further .0)) (further-equal var s t (bind-equal var s t (m .1))) ∙ sym (further .1 t) in
     let f′ : subst-term σ s′ ≡ subst-term σ t′ = further-equal (m .0) s′ t′ further in
     cc
 
@@ -97,7 +103,8 @@ module _ {X : Type 0} (self : ℕ → X) where
   unfolding after
   after-through h σ v r e f u = f u ∙ sym (through-term h (replace v r) (replace-through h v r e) (σ u))
 
-  bind-through : (h : ℕ → X) (σ : ℕ → Term) (s t : Term) {τ : ℕ → Term} → bind σ s t ≡ some τ → send self h s ≡ send self h t → Through h σ → Through h τ
+  bind-through : (h : ℕ → X) (σ : ℕ → Term) (s t : Term) {τ : ℕ → Term} → bind σ s t ≡ some τ → send self h s ≡ send self h t → Through h σ
+      → Through h τ
   unfolding bind
   bind-through h σ s t e d f =
       let s′ : Term = subst-term σ s in
@@ -108,7 +115,8 @@ module _ {X : Type 0} (self : ℕ → X) where
       (λ v k. after-through h σ v t′ (ap (send self h) (sym k) ∙ d′) f)
       (λ v k. after-through h σ v s′ (ap (send self h) (sym k) ∙ sym d′) f)
 
-  pub unify-factors : (a b : Atom Term) {σ : ℕ → Term} → unify a b ≡ some σ → (h : ℕ → X) → mapAtom (send self h) a ≡ mapAtom (send self h) b → (v : ℕ) → h v ≡ send self h (σ v)
+  pub unify-factors : (a b : Atom Term) {σ : ℕ → Term} → unify a b ≡ some σ → (h : ℕ → X)
+      → mapAtom (send self h) a ≡ mapAtom (send self h) b → (v : ℕ) → h v ≡ send self h (σ v)
   unfolding unify
   unify-factors (concept A s) (concept B t) e h d = bind-through h var s t (pick-some (eqb A B) e .1) (cc) (λ v. refl)
   unify-factors (concept A s) (role Q t t′) e h d = absurd (none≢some e)
@@ -126,11 +134,13 @@ module _ {X : Type 0} (self : ℕ → X) where
     join-complete h σ (var u) (const d) e = (after σ u (const d), refl)
     join-complete h σ (var u) (var v) e = (pick (leb u v) (after σ v (var u)) (after σ u (var v)), refl)
 
-    bind-complete : (h : ℕ → X) (σ : ℕ → Term) (s t : Term) → send self h s ≡ send self h t → Through h σ → (τ : ℕ → Term) × (bind σ s t ≡ some τ)
+    bind-complete : (h : ℕ → X) (σ : ℕ → Term) (s t : Term) → send self h s ≡ send self h t → Through h σ
+        → (τ : ℕ → Term) × (bind σ s t ≡ some τ)
     unfolding bind
     bind-complete h σ s t e f = join-complete h σ (subst-term σ s) (subst-term σ t) (through-term h σ f s ∙ e ∙ sym (through-term h σ f t))
 
-    pub unify-complete : (a b : Atom Term) (h : ℕ → X) → mapAtom (send self h) a ≡ mapAtom (send self h) b → (σ : ℕ → Term) × (unify a b ≡ some σ)
+    pub unify-complete : (a b : Atom Term) (h : ℕ → X) → mapAtom (send self h) a ≡ mapAtom (send self h) b
+        → (σ : ℕ → Term) × (unify a b ≡ some σ)
     unfolding unify
     unify-complete (concept A s) (concept B t) h d = found-pick (eqb A B) (T-eqb A B .1 (cc)) (bind-complete h var s t (cc) (λ v. refl))
     unify-complete (concept A s) (role Q t t′) h d = absurd (let z : _≡_ {A = ℕ} 0 1 = cc in omega arith)
@@ -152,7 +162,8 @@ pub unifies-equal : (a b : Atom Term) {σ : ℕ → Term} → Unifies a b σ →
 unifies-equal a b (inl e) = unify-equal a b e
 unifies-equal a b (inr e) = sym (unify-equal b a e)
 
-pub unifies-factors : {X : Type 0} (self : ℕ → X) (a b : Atom Term) {σ : ℕ → Term} → Unifies a b σ → (h : ℕ → X) → mapAtom (send self h) a ≡ mapAtom (send self h) b → Through self h σ
+pub unifies-factors : {X : Type 0} (self : ℕ → X) (a b : Atom Term) {σ : ℕ → Term} → Unifies a b σ → (h : ℕ → X)
+    → mapAtom (send self h) a ≡ mapAtom (send self h) b → Through self h σ
 unifies-factors self a b (inl e) h d = unify-factors self a b e h d
 unifies-factors self a b (inr e) h d = unify-factors self b a e h (sym d)
 

@@ -15,7 +15,8 @@ use Rattle.theory.specs.Laws.Lists.{at-lt}
 use Rattle.theory.specs.Laws.Refusals.{Decides, first-refusal-iff, no-refusal-iff}
 use Rattle.theory.specs.Laws.RenamingDecided.{alike-iff}
 use Rattle.theory.specs.Laws.WrittenStep.{yields-unique, refused-or-yields, refused-not-yields}
-use Rattle.theory.specs.Laws.UnionTests.{meets7-or-start, meets7-not-start, someAlike-iff, refuses7-iff, refuses8-iff, refuses9-iff, refuses10-iff, refuses11-iff}
+use Rattle.theory.specs.Laws.UnionTests.{meets7-or-start, meets7-not-start, someAlike-iff, refuses7-iff, refuses8-iff, refuses9-iff}
+use Rattle.theory.specs.Laws.UnionTests.{refuses10-iff, refuses11-iff}
 
 -- the tests that the check makes, in order
 abbrev tests : List Rule → Query → UCQ → List (ℕ × Bool)
@@ -43,7 +44,8 @@ decided rules q union = (
 )
 
 -- each of 7 to 11 is given exactly where its condition holds and no earlier one does
-pub check-first : (rules : List Rule) (q : Query) (union : UCQ) (n : ℕ) → (check rules q union ≡ some n) ↔ First (conditions rules q union) n
+pub check-first : (rules : List Rule) (q : Query) (union : UCQ) (n : ℕ) → (check rules q union ≡ some n)
+    ↔ First (conditions rules q union) n
 unfolding check
 check-first rules q union n = first-refusal-iff (tests rules q union) (conditions rules q union) (decided rules q union) n
 
@@ -73,7 +75,8 @@ not-refused rules q union ok = (
   (
     λ w. (let y = ok .later (w .0) (w .1) (w .2) (w .3) in refused-not-yields rules union (w .0) (w .1 .step) (y .0) (w .4) (y .1)),
     (
-      λ w. (let y = ok .later (w .0) (w .1) (w .3) (w .4) in w .6 (subst (λ r. Alike r (w .1 .query)) (yields-unique rules union (w .0) (w .1 .step) (y .1) (w .5)) (y .2))),
+      λ w. (let y = ok .later (w .0) (w .1) (w .3) (w .4) in
+          w .6 (subst (λ r. Alike r (w .1 .query)) (yields-unique rules union (w .0) (w .1 .step) (y .1) (w .5)) (y .2))),
       (
         λ w. ok .unlike (w .0) (w .1) (w .2) (w .3) (w .4) (w .5) (w .6) (w .7),
         (λ w. (let n = ok .closed (w .0) (w .1) (w .2) (w .3) in w .4 (n .0) (n .1) (n .2)), tt),

@@ -6,15 +6,16 @@ use native.Mathlib.Omega.{arith}
 use mathlib.Core.List.{List, List·Memᴰ·head, List·Memᴰ·tail, Memᴰ·append-right, Memᴰ·map, Memᴰ·cast}
 use lib.ListN.{length, getD, take}
 use lib.Seq.{split-at, getD-take, length-take-le}
+use borrow.Author.Tests.{eq-eqb, ne-eqb}
 use Rattle.theory.specs.Lists.{_∈_}
 use Rattle.theory.specs.Syntax.{var, const, concept, role, args}
 use Rattle.theory.specs.Laws.Lists.{mem-along}
 use Rattle.theory.specs.Laws.Syntax.{terms-answers, terms-atoms}
 use Rattle.words.specs.Records.{termOf, atomOf}
-use Rattle.words.specs.Words.{LowTerm, LowAtom, TermWords, queryOf, Small, wordTerm, wordAtom, wordKind, wordName, wordFirst, wordSecond}
+use Rattle.words.specs.Words.{LowTerm, LowAtom, TermWords, queryOf, Small, wordTerm, wordAtom, wordKind, wordName, wordFirst}
+use Rattle.words.specs.Words.{wordSecond}
 use Rattle.words.specs.declared.QueryWords.{QueryWords}
 use Rattle.words.specs.Limits.{wordObjectBound, wordTermBound}
-use borrow.Author.Tests.{eq-eqb, ne-eqb}
 
 -- ---- where this holds of a query's words
 

@@ -4,13 +4,14 @@ use Prim.Native.Nat.{ℕ, _+_, _≤_}
 use native.Mathlib.Omega.{arith}
 use mathlib.Core.Bool.{Bool, false}
 use mathlib.Core.List.{List, [], _∷_, map}
-use lib.ListN.{length, getD, take, length-map}
-use lib.Seq.{length-take-le}
+use lib.ListN.{length, getD, take}
 use Rattle.theory.specs.Lists.{any, all, count, pairwise}
 use Rattle.theory.specs.Syntax.{Term, Atom, args, places}
+use Rattle.theory.specs.Laws.Lists.{any-flatMap}
+use Rattle.theory.specs.Laws.Syntax.{places-flatMap}
 use Rattle.theory.specs.Laws.Counting.{total, count-append}
 use Rattle.theory.specs.Laws.Scans.{someFrom, allFrom, totalFrom, testAt, scans}
-use Rattle.theory.specs.Laws.Scans.{some-record, all-records, total-records, all-pairs, pairwise-lengths}
+use Rattle.theory.specs.Laws.Scans.{some-record, all-records, total-records, all-pairs, unequal-records}
 use Rattle.words.specs.Words.{queryOf, wordTerm, wordAtom}
 use Rattle.words.specs.declared.QueryWords.{QueryWords}
 
@@ -22,17 +23,12 @@ module _ (q : QueryWords) (l : length (q .answers) ≡ 4) (g : q .terms ≤ 4) w
   unfolding queryOf
   some-answer p b e = e ∙ some-record wordTerm (q .answers) (q .terms) (omega arith) p
 
-  answers-number : length (queryOf q .answers) ≡ q .terms
-  unfolding queryOf
-  answers-number = length-map (take (q .terms) (q .answers)) wordTerm ∙ length-take-le (q .terms) (q .answers) (omega arith)
-
 -- those of two queries side by side
 module _ (p q : QueryWords) (l : length (p .answers) ≡ 4) (m : length (q .answers) ≡ 4) (g : p .terms ≤ 4) (h : q .terms ≤ 4)
     (test : Term → Term → Bool) where
   pub more-answers : (p .terms ≡ q .terms → ⊥) → false ≡ pairwise test (queryOf p .answers) (queryOf q .answers)
-  more-answers d =
-      sym (pairwise-lengths test (queryOf p .answers) (queryOf q .answers)
-      (λ e. d (sym (answers-number p l g) ∙ e ∙ answers-number q m h)))
+  unfolding queryOf
+  more-answers d = unequal-records test wordTerm wordTerm (p .answers) (q .answers) (p .terms) (q .terms) (omega arith) (omega arith) d
 
   pub all-answers : (b : Bool) → p .terms ≡ q .terms
       → b ≡ allFrom (λ k. test (wordTerm (getD (p .answers) k 0)) (wordTerm (getD (q .answers) k 0))) 0 (p .terms)
@@ -43,6 +39,10 @@ module _ (p q : QueryWords) (l : length (p .answers) ≡ 4) (m : length (q .answ
       ∙ ap (λ k. pairwise test (map wordTerm (take (p .terms) (p .answers))) (map wordTerm (take k (q .answers)))) n
 
 -- ---- atoms
+
+-- the places of atoms, atom by atom
+pub any-places : (p : Term → Bool) (atoms : List (Atom Term)) → any (λ a. any p (args a)) atoms ≡ any p (places atoms)
+any-places p atoms = sym (ap (any p) (places-flatMap atoms) ∙ any-flatMap p args atoms)
 
 count-places : (p : Term → Bool) (atoms : List (Atom Term)) → total (λ a. count p (args a)) atoms ≡ count p (places atoms)
 unfolding total count

@@ -15,7 +15,8 @@ concept-fact : (f : ℕ) → factKind wordWidth f ≡ 0 → wordFact f ≡ conce
 unfolding factOf
 concept-fact f e = rw (eq-eqb (factKind wordWidth f) 0 e)
 
-role-fact : (f : ℕ) → (factKind wordWidth f ≡ 0 → ⊥) → wordFact f ≡ role (factName wordWidth f) (factFirst wordWidth f) (factSecond wordWidth f)
+role-fact : (f : ℕ) → (factKind wordWidth f ≡ 0 → ⊥)
+    → wordFact f ≡ role (factName wordWidth f) (factFirst wordWidth f) (factSecond wordWidth f)
 unfolding factOf
 role-fact f e = rw (ne-eqb (factKind wordWidth f) 0 e)
 

@@ -1,0 +1,58 @@
+// Refusals 7 to 11, in the order of 01's list.
+use check_closed::refuses11;
+use check_distinct::fill_keys;
+use check_distinct::refuses10;
+use check_first::refuses7;
+use check_steps::refuses8;
+use check_steps::refuses9;
+use words::QueryWords;
+ghost use mathlib.Core.Path.{_≡_};
+ghost use mathlib.Core.List.{[], _∷_};
+ghost use Prim.Native.Nat.{_≤_};
+ghost use lib.ListN.{length};
+ghost use Rattle.theory.specs.Refusals.{firstRefusal, numberOf};
+ghost use Rattle.theory.specs.Syntax.{Query};
+ghost use Rattle.theory.specs.Union.{refuses10 as refusesTen, refuses11 as refusesEleven, check};
+ghost use Rattle.words.specs.Words.{queryOf, Small, rulesIn, unionIn};
+ghost use Rattle.words.specs.Rows.{Rows};
+
+// The first of refusals 10 and 11 that applies, or 0. The list is lent for the members' keys.
+fn check_alike(rules: &[u64], count: usize, table: &[u64], n: usize, keys: &mut [u64]) -> u32
+    requires { ⌜ (count ≤ length (now rules)) × Rows (now table) n × (n ≤ length (now keys)) ⌝ }
+    ensures { λ r. ⌜ ((q : Query) → r
+        ≡ numberOf (firstRefusal ((10, refusesTen (rulesIn (now (rules .entry)) count) q (unionIn (now (table .entry)) n))
+        ∷ (11, refusesEleven (rulesIn (now (rules .entry)) count) q (unionIn (now (table .entry)) n)) ∷ []))) ⌝ }
+{
+    fill_keys(table, n, keys);
+    if refuses10(table, n, keys) {
+        return 10;
+    }
+    if refuses11(rules, count, table, n, keys) {
+        return 11;
+    }
+    0
+}
+
+// The first of refusals 7 to 11 that applies to the union of n members, or 0. The list is lent for the members' keys.
+pub fn check_union(
+    rules: &[u64],
+    count: usize,
+    question: QueryWords,
+    table: &[u64],
+    n: usize,
+    keys: &mut [u64],
+) -> u32
+    requires { ⌜ (count ≤ length (now rules)) × Small question × Rows (now table) n × (n ≤ length (now keys)) ⌝ }
+    ensures { λ r. ⌜ r ≡ numberOf (check (rulesIn (now (rules .entry)) count) (queryOf question) (unionIn (now (table .entry)) n)) ⌝ }
+{
+    if refuses7(question, table, n) {
+        return 7;
+    }
+    if refuses8(rules, count, table, n) {
+        return 8;
+    }
+    if refuses9(rules, count, table, n) {
+        return 9;
+    }
+    check_alike(rules, count, table, n, keys)
+}

@@ -1,6 +1,0 @@
-use Rattle.key.proofs.TermLaws.{laws}
-use Rattle.key.proofs.scrambled.Statement.{statement}
-use Rattle.key.proofs.scrambled.Tie as tie
-
-pub scrambled-spec : {M : Type 1} → statement M
-scrambled-spec = tie.close (tie.spec (λ c. search laws) (λ c. search laws))

@@ -1,0 +1,192 @@
+// The search for a renaming: source variables rising, targets rising, so that the first one found is the smallest.
+use crate::partial::Partial;
+use crate::partial::assign;
+use crate::partial::nothing;
+use crate::partial::promising;
+use crate::profile::beside;
+use crate::profile::beside_alike;
+use crate::profile::spread_alike;
+use query_sets::has;
+use query_variables::used::used;
+use words::QueryWords;
+ghost use mathlib.Core.Path.{_≡_};
+ghost use mathlib.Core.Bool.{true, not, _&&_};
+ghost use Prim.Native.Nat.{_+_, _≤_, _<_};
+ghost use Rattle.theory.specs.Renaming.{alike as alikeIn, promising as promisingIn};
+ghost use Rattle.query_sets.specs.Sets.{holds};
+ghost use Rattle.words.specs.Words.{queryOf, Small};
+ghost use Rattle.query_renaming.specs.Partial.{entry, mayBecome};
+ghost use Rattle.query_renaming.specs.Search.{Ready, Begun, Offers, Allows, Judges, DecidesAlike};
+
+// Two queries with the sets of their variables.
+pub struct Compared {
+    pub p: QueryWords,
+    pub q: QueryWords,
+    pub sources: u32,
+    pub targets: u32,
+}
+
+// The two queries with the sets of their variables.
+fn prepared(p: QueryWords, q: QueryWords) -> Compared
+    requires { ⌜ Small p × Small q ⌝ }
+    ensures { λ r. ⌜ Ready r × (r .p ≡ p) × (r .q ≡ q) ⌝ }
+{
+    let sources = used(p);
+    let targets = used(q);
+    Compared {
+        p,
+        q,
+        sources,
+        targets,
+    }
+}
+
+// Whether w is a variable of the second query that is not taken.
+fn free(s: Compared, m: Partial, w: u32) -> bool
+    requires { ⌜ w < 32 ⌝ }
+    ensures { λ r. ⌜ r ≡ (holds (s .targets) w && not (holds (m .taken) w)) ⌝ }
+{
+    if has(s.targets, w) {
+        !has(m.taken, w)
+    } else {
+        false
+    }
+}
+
+// Whether v, not assigned yet, may go to w as far as w alone tells: w is free, and as many variables stand beside it.
+fn offers(s: Compared, v: u32, w: u32, m: Partial) -> bool
+    requires { ⌜ Ready s × (v < 32) × (w < 32) × (holds (s .sources) v ≡ true) × (entry m v ≡ 32) ⌝ }
+    ensures { λ r. ⌜ Offers s m v w r ⌝ }
+{
+    let p = s.p;
+    let q = s.q;
+    if free(s, m, w) {
+        beside_alike(p, q, v, w)
+    } else {
+        false
+    }
+}
+
+// Whether the variable v, not assigned yet, has a target left against which nothing speaks.
+fn has_target(s: Compared, v: u32, m: Partial) -> bool
+    requires { ⌜ Ready s × (v < 32) × (holds (s .sources) v ≡ true) × (entry m v ≡ 32) ⌝ }
+    ensures { λ r. ⌜ Allows s m r ⌝ }
+{
+    let p = s.p;
+    let q = s.q;
+    let mut x: u32 = 0;
+    while x < 32 {
+        if offers(s, v, x, m) {
+            if promising(assign(m, v, x), p, q) {
+                return true;
+            } else {
+                x += 1;
+            }
+        } else {
+            x += 1;
+        }
+    }
+    false
+}
+
+// Whether the variable v, if it is to be looked at, has a target left.
+fn still_open(s: Compared, look: u32, v: u32, m: Partial) -> bool
+    requires { ⌜ Ready s × (v < 32) × (entry m v ≡ 32) ⌝ }
+    ensures { λ r. ⌜ Allows s m r ⌝ }
+{
+    if has(look, v) {
+        if has(s.sources, v) {
+            return has_target(s, v, m);
+        }
+    }
+    true
+}
+
+// Whether each variable from n on that is to be looked at has a target left.
+fn hopeful(s: Compared, look: u32, n: u32, m: Partial) -> bool
+    requires { ⌜ Ready s × (n ≤ 32) × Begun (queryOf (s .p)) n m ⌝ }
+    ensures { λ r. ⌜ Allows s m r ⌝ }
+{
+    let mut v = n;
+    while v < 32 {
+        if still_open(s, look, v, m) {
+            v += 1;
+        } else {
+            return false;
+        }
+    }
+    true
+}
+
+// Whether nothing speaks against the partial renaming, v being assigned last, nor leaves a variable beside v without a target.
+fn viable(s: Compared, v: u32, m: Partial) -> bool
+    requires { ⌜ Ready s × (v < 32) × Begun (queryOf (s .p)) (v + 1) m ⌝ }
+    ensures { λ r. ⌜ Judges s m r ⌝ }
+{
+    let p = s.p;
+    let q = s.q;
+    if promising(m, p, q) {
+        hopeful(s, beside(p, v), v + 1, m)
+    } else {
+        false
+    }
+}
+
+// Whether a renaming goes on from the partial one, in which the variables below v are assigned.
+fn complete(s: Compared, v: u32, m: Partial) -> bool
+    requires { ⌜ Ready s × (v ≤ 32) × Begun (queryOf (s .p)) v m × (promisingIn (mayBecome m) (queryOf (s .p)) (queryOf (s .q)) ≡ true) ⌝ }
+    ensures { λ r. ⌜ DecidesAlike s m r ⌝ }
+{
+    if v == 32 {
+        return true;
+    }
+    if !has(s.sources, v) {
+        return complete(s, v + 1, m);
+    }
+    let mut w: u32 = 0;
+    while w < 32 {
+        if offers(s, v, w, m) {
+            let next = assign(m, v, w);
+            if viable(s, v, next) {
+                if complete(s, v + 1, next) {
+                    return true;
+                } else {
+                    w += 1;
+                }
+            } else {
+                w += 1;
+            }
+        } else {
+            w += 1;
+        }
+    }
+    false
+}
+
+// Whether there is a renaming, nothing being assigned yet.
+fn found(s: Compared, m: Partial) -> bool
+    requires { ⌜ Ready s × Begun (queryOf (s .p)) 0 m × (promisingIn (mayBecome m) (queryOf (s .p)) (queryOf (s .q)) ≡ true) ⌝ }
+    ensures { λ r. ⌜ DecidesAlike s m r ⌝ }
+{
+    let p = s.p;
+    let q = s.q;
+    if spread_alike(p, q) {
+        if hopeful(s, 0xFFFFFFFF, 0, m) {
+            return complete(s, 0, m);
+        }
+    }
+    false
+}
+
+// Whether the two queries are alike: whether a one-to-one renaming of variables carries the one to the other.
+pub fn alike(p: QueryWords, q: QueryWords) -> bool
+    requires { ⌜ Small p × Small q ⌝ }
+    ensures { λ r. ⌜ r ≡ alikeIn (queryOf p) (queryOf q) ⌝ }
+{
+    let m = nothing();
+    if promising(m, p, q) {
+        found(prepared(p, q), m)
+    } else {
+        false
+    }
+}

@@ -1,9 +1,0 @@
-use Rattle.renaming.proofs.PartialLaws.{termLaws}
-use Rattle.renaming.proofs.partial.may_go.Statement.{statement}
-use Rattle.renaming.proofs.partial.may_go.Tie as tie
-
-pub may-go-spec : {M : Type 1} → statement M
-may-go-spec =
-    tie.close
-    (tie.spec
-    (λ c. search termLaws) (λ c. search termLaws) (λ c. search termLaws) (λ c. search termLaws) (λ c. search termLaws))

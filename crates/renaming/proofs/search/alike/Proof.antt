@@ -1,9 +1,0 @@
-use Rattle.renaming.proofs.SearchLaws.{laws}
-use Rattle.renaming.proofs.search.alike.Statement.{statement}
-use Rattle.renaming.proofs.search.alike.Tie as tie
-
-pub alike-spec : {M : Type 1} → statement M
-alike-spec =
-    tie.close
-    (tie.spec
-    (λ c. search laws) (λ c. search laws) (λ c. search laws) (λ c. search laws) (λ c. search laws) (λ c. search laws))

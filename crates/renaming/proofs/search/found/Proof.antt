@@ -1,9 +1,0 @@
-use Rattle.renaming.proofs.SearchLaws.{laws}
-use Rattle.renaming.proofs.search.found.Statement.{statement}
-use Rattle.renaming.proofs.search.found.Tie as tie
-
-pub found-spec : {M : Type 1} → statement M
-found-spec =
-    tie.close
-    (tie.spec
-    (λ c. search laws) (λ c. search laws) (λ c. search laws) (λ c. search laws) (λ c. search laws) (λ c. search laws))

@@ -1,4 +1,0 @@
-pub mod NoStepLaws
-pub mod ScanLaws
-pub mod TableLaws
-pub mod UnionLaws

@@ -1,9 +1,0 @@
-use Rattle.rule_on_atom.proofs.RuleLaws.{laws}
-use Rattle.rule_on_atom.proofs.describe.Statement.{statement}
-use Rattle.rule_on_atom.proofs.describe.Tie as tie
-
-pub describe-spec : {M : Type 1} → statement M
-describe-spec =
-    tie.close
-    (tie.spec (λ c κs. search laws) (λ c κs. search laws) (λ c κs. search laws) (λ c κs. search laws) (λ c κs. search laws)
-    (λ c κs. search laws) (λ c. search laws) (λ c. search laws))

@@ -1,9 +1,0 @@
-use Rattle.variables.proofs.UsedLaws.{laws}
-use Rattle.variables.proofs.used.with_atom.Statement.{statement}
-use Rattle.variables.proofs.used.with_atom.Tie as tie
-
-pub with-atom-spec : {M : Type 1} → statement M
-with-atom-spec =
-    tie.close
-    (tie.spec
-    (λ c. search laws) (λ c. search laws) (λ c. search laws) (λ c. search laws) (λ c. search laws) (λ c. search laws) (λ c. search laws))

@@ -1,0 +1,49 @@
+// Members in a table, a row of 16 words each.
+use crate::QueryWords;
+use crate::limits::MEMBER_WORDS;
+ghost use mathlib.Core.Path.{_≡_};
+ghost use Prim.Native.Nat.{_+_, _*_, _≤_};
+ghost use lib.ListN.{length, take, drop};
+ghost use Rattle.words.specs.Words.{queryOf, Small, stride};
+ghost use Rattle.words.specs.Rows.{Row, rowAt, memberIn};
+
+// Four words of the table.
+fn four_from(table: &[u64], at: usize) -> [u64; 4]
+    requires { ⌜ at + 4 ≤ length (now table) ⌝ }
+    ensures { λ r. ⌜ r ≡ take 4 (drop at (now (table .entry))) ⌝ }
+{
+    [table[at], table[at + 1], table[at + 2], table[at + 3]]
+}
+
+// Eight words of the table.
+fn eight_from(table: &[u64], at: usize) -> [u64; 8]
+    requires { ⌜ at + 8 ≤ length (now table) ⌝ }
+    ensures { λ r. ⌜ r ≡ take 8 (drop at (now (table .entry))) ⌝ }
+{
+    [
+        table[at],
+        table[at + 1],
+        table[at + 2],
+        table[at + 3],
+        table[at + 4],
+        table[at + 5],
+        table[at + 6],
+        table[at + 7],
+    ]
+}
+
+// The question of member j.
+pub fn load(table: &[u64], j: usize) -> QueryWords
+    requires { ⌜ (stride * j + stride ≤ length (now table)) × Row (rowAt (now table) j) ⌝ }
+    ensures { λ r. ⌜ (queryOf r ≡ memberIn (now (table .entry)) j .query) × Small r ⌝ }
+{
+    let at = MEMBER_WORDS * j;
+    let answers = four_from(table, at + 2);
+    let atoms = eight_from(table, at + 8);
+    QueryWords {
+        terms: table[at + 1] as usize,
+        answers,
+        size: table[at + 6] as usize,
+        atoms,
+    }
+}
