@@ -26,9 +26,9 @@ use Rattle.sheets.specs.Laws.OneList.{first-positive}
 use Rattle.read_rules.specs.RuleWords.{RulesRead}
 use Rattle.read_question.specs.QuestionWords.{QuestionRead}
 use Rattle.answer_stages.specs.Stages.{unionNumber}
-use Rattle.answering.specs.Laws.Checking.{rules-stop, question-stops, question-passes}
-use Rattle.answering.specs.Checking.{sheetsOf, checkNumber, Checked}
-use Rattle.answering.specs.Laws.CheckPromises.{zero-means}
+use Rattle.promises.specs.Laws.Checking.{rules-stop, question-stops, question-passes}
+use Rattle.promises.specs.Checking.{sheetsOf, checkNumber, Checked}
+use Rattle.promises.specs.Laws.CheckPromises.{zero-means}
 
 -- ---- rules and question, as they were read
 

@@ -27,11 +27,11 @@ use Rattle.read_question.specs.QuestionWords.{QuestionRead}
 use Rattle.answer_stages.specs.declared.Answers.{Answers}
 use Rattle.answer_stages.specs.Stages.{otherwise, factsNumber, roomNumber, Gives, GivesFromUnion}
 use Rattle.answer_stages.proofs.DrawLaws.{refused-first, gives-along}
-use Rattle.answering.specs.Checking.{checkNumber}
-use Rattle.answering.specs.Drawing.{theAnswers, termsOf, bytesNeeded, outcome, Drawn}
-use Rattle.answering.specs.Laws.DrawPromises.{number-is, zero-means, fourteen-means, refused-means, count-means, list-means}
-use Rattle.answering.specs.Laws.DrawPromises.{both-readers, ascending, rest-zero}
-use Rattle.answering.specs.Laws.Drawing.{four, checked-same}
+use Rattle.promises.specs.Checking.{checkNumber}
+use Rattle.promises.specs.Drawing.{theAnswers, termsOf, bytesNeeded, outcome, Drawn}
+use Rattle.promises.specs.Laws.DrawPromises.{number-is, zero-means, fourteen-means, refused-means, count-means, list-means}
+use Rattle.promises.specs.Laws.DrawPromises.{both-readers, ascending, rest-zero}
+use Rattle.promises.specs.Laws.Drawing.{four, checked-same}
 use Rattle.answering.proofs.CheckLaws.{rules-refused, question-refused, all-checked}
 
 -- ---- numbers, one after the other

@@ -6,8 +6,8 @@ use borrow.Author.Needs.{needs}
 use Rattle.words.specs.Limits.{sheetWidth}
 use Rattle.sheets.specs.Partners.{partners01}
 use Rattle.sheets.specs.Showing.{memberPart, Placed}
-use Rattle.answering.specs.TheSheets.{thePart}
-use Rattle.answering.specs.Showing.{Shown}
+use Rattle.promises.specs.TheSheets.{thePart}
+use Rattle.promises.specs.Showing.{Shown}
 
 pub part-shown : (p s part : List ℕ) (m : ℕ) → p ≡ partners01 → part ≡ memberPart p sheetWidth s m → part ≡ thePart s m
 part-shown p s part m e d = d ∙ ap (λ t. memberPart t sheetWidth s m) e

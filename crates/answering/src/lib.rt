@@ -10,10 +10,10 @@ use read_union::member_place;
 use words::limits::MOST_RULES;
 ghost use mathlib.Core.Path.{_≡_};
 ghost use lib.ListN.{length};
-ghost use Rattle.answering.specs.Checking.{Checked};
-ghost use Rattle.answering.specs.Drawing.{Drawn};
-ghost use Rattle.answering.specs.Showing.{Shown};
-ghost use Rattle.answering.specs.TheSheets.{thePart};
+ghost use Rattle.promises.specs.Checking.{Checked};
+ghost use Rattle.promises.specs.Drawing.{Drawn};
+ghost use Rattle.promises.specs.Showing.{Shown};
+ghost use Rattle.promises.specs.TheSheets.{thePart};
 
 // Checks a union against rules and question: the number of the first refusal of 1 to 11 that applies, 0 where the union is accepted.
 pub fn check(rules: &[u8], question: &[u8], union: &[u8]) -> u32

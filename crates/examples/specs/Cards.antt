@@ -16,10 +16,10 @@ use Rattle.sheets.specs.Partners.{partners01}
 use Rattle.sheets.specs.Refusals.{refusalOf, numberOf}
 use Rattle.sheets.specs.Tests.{refuses1, refuses2, refuses3, refuses4, refuses5, refuses6, refuses12, refuses13}
 use Rattle.sheets.specs.Reading.{rulesAsRead, questionAsRead, unionAsRead, factsAsRead}
-use Rattle.answering.specs.Checking.{checkNumber}
-use Rattle.answering.specs.Drawing.{Outcome, outcome}
-use Rattle.report.specs.Ascii.{ascii}
-use Rattle.report.specs.Text.{textFor}
+use Rattle.promises.specs.Checking.{checkNumber}
+use Rattle.promises.specs.Drawing.{Outcome, outcome}
+use Rattle.promises.specs.Ascii.{ascii}
+use Rattle.promises.specs.Text.{textFor}
 
 -- four sheets and the length of the list; what checking gives; what drawing gives: number, count, and the bytes before the zeros; and what
 -- the program prints, where 01 says it

@@ -17,7 +17,7 @@ use Rattle.sheets.specs.Format.{questionLength, termCount, memberCount, memberS
 use Rattle.sheets.specs.Showing.{hasMember, memberPart, partStart, Placed}
 use Rattle.sheets.specs.Tests.{refuses6}
 use Rattle.read_union.specs.Members.{memberEnd}
-use Rattle.read_union.proofs.UnionLaws.{first-begins, accepted, at-least, at-most, refused}
+use Rattle.sheets.specs.Laws.UnionLengths.{first-begins, accepted, at-least, at-most, refused}
 use Rattle.read_union.proofs.RowLaws.{end-begins, end-within, start-within}
 
 pub start-reached : (s : List ℕ) (at j m : ℕ) → at ≡ memberStart sheetWidth s j → j ≤ m → m ≤ j → at ≡ memberStart sheetWidth s m

@@ -31,7 +31,7 @@ use Rattle.sheets.specs.Tests.{questionSound, refuses6}
 use Rattle.read_records.specs.ReadIntoLaws.{sheet-refused, sheet-read}
 use Rattle.read_question.specs.QuestionWords.{ReadFrom}
 use Rattle.read_union.specs.Members.{memberEnd, Readable, RowOf, NarrowRow, NarrowRows, UnionRead}
-use Rattle.read_union.proofs.UnionLaws.{first-begins, next-start, accepted, at-least, at-most}
+use Rattle.sheets.specs.Laws.UnionLengths.{first-begins, next-start, accepted, at-least, at-most}
 
 -- ---- the words of a row
 

@@ -20,7 +20,8 @@ use Rattle.words.specs.Limits.{sheetWidth, mostTerms, mostAtoms, mostMembers, c
 use Rattle.sheets.specs.Format.{questionLength, termCount, atomCount, queryAt, memberCount, memberStart, questionStart}
 use Rattle.sheets.specs.Conditions.{Malformed}
 use Rattle.sheets.specs.Laws.Tests.{eqb-comm, lt-or-le, numbers-iff}
-use Rattle.sheets.specs.Laws.UnionRefusals.{Not6, not6-iff, start-rises}
+use Rattle.sheets.specs.Laws.UnionRefusals.{start-rises}
+use Rattle.sheets.specs.Laws.UnionLengths.{first-begins, next-start, accepted, refused, too-short, too-long}
 use Rattle.sheets.specs.Partners.{queryAsRead}
 use Rattle.sheets.specs.Tests.{questionSound, refuses4, refuses5, memberSoundAt, memberSound, refuses6}
 use Rattle.read_union.specs.Members.{memberEnd, wholeAndSound, endIfSound}
@@ -29,14 +30,6 @@ use Rattle.read_union.specs.Members.{memberEnd, wholeAndSound, endIfSoun
 
 pub end-past : (s : List ℕ) (at : ℕ) → length s ≤ at + stepBytes → at + stepBytes + 1 ≡ memberEnd s at
 end-past s at h = omega (arith, List·getD-eq-default s 0 {n = at + stepBytes} h)
-
-pub first-begins : (s : List ℕ) → countBytes ≡ memberStart sheetWidth s 0
-unfolding memberStart
-first-begins s = refl
-
-pub next-start : (s : List ℕ) (j : ℕ) → memberEnd s (memberStart sheetWidth s j) ≡ memberStart sheetWidth s (suc j)
-unfolding memberStart
-next-start s j = refl
 
 -- ---- one member
 
@@ -162,21 +155,6 @@ all-sound-length p s arity count at j e below h k = eqb-comm (length s) at ∙ a
 
 -- ---- refusal 6
 
--- a question with counts in range is at most 61 bytes long, so a member at most 65
-question-bound : (s : List ℕ) (at : ℕ) → ¬ Malformed sheetWidth s at → questionLength sheetWidth s at ≤ mostQuestionBytes sheetWidth
-question-bound s at ok =
-    elim (lt-or-le mostTerms (termCount s at)) [
-      | inl l ↦ absurd (ok (inl (inl l)))
-      | inr few ↦ elim (lt-or-le mostAtoms (atomCount s at)) [ inl l ↦ absurd (ok (inl (inr (inr l)))) | inr small ↦ omega arith ]
-    ]
-
-start-bound : (s : List ℕ) (n : ℕ) → ((j : ℕ) → j < n → ¬ Malformed sheetWidth s (questionStart sheetWidth s j))
-    → memberStart sheetWidth s n ≤ countBytes + (stepBytes + mostQuestionBytes sheetWidth) * n
-start-bound s zero ok = omega (arith, first-begins s)
-start-bound s (suc n) ok =
-    let before = start-bound s n (λ j h. ok j (omega arith)) in
-    omega (arith, next-start s n, question-bound s (questionStart sheetWidth s n) (ok n (omega arith)))
-
 not-or : (a b c : Bool) → not (not a || not b || not c) ≡ a && b && c
 not-or true true true = refl
 not-or true true false = refl
@@ -184,32 +162,13 @@ not-or true false c = refl
 not-or false b c = refl
 
 module _ (p s : List ℕ) (arity : ℕ) where
-  pub accepted : not (refuses6 p sheetWidth arity s) ≡ true → Not6 p sheetWidth arity s
-  accepted e = not6-iff p sheetWidth arity s .0 (T-no (refuses6 p sheetWidth arity s) .0 (subst T (sym e) tt))
-
-  pub at-least : not (refuses6 p sheetWidth arity s) ≡ true → 7 ≤ length s
-  at-least e = let a = accepted e in omega (arith, first-begins s, next-start s 0, start-rises sheetWidth s 1 (memberCount s) (a .0))
-
-  -- 33,282 is 2 + 512 * 65
-  pub at-most : not (refuses6 p sheetWidth arity s) ≡ true → length s ≤ mostUnionBytes sheetWidth
-  at-most e = let a = accepted e in omega (arith, start-bound s (memberCount s) (λ j h. a .3 j h .0))
-
-  pub refused : (not (refuses6 p sheetWidth arity s) ≡ true → ⊥) → false ≡ not (refuses6 p sheetWidth arity s)
-  refused f = sym (is-false (not (refuses6 p sheetWidth arity s)) (λ t. f (is-true (not (refuses6 p sheetWidth arity s)) t)))
-
-  pub too-short : length s < countBytes → false ≡ not (refuses6 p sheetWidth arity s)
-  too-short h = refused (λ e. let l : 7 ≤ length s = at-least e in omega arith)
-
-  pub too-long : mostUnionBytes sheetWidth < length s → false ≡ not (refuses6 p sheetWidth arity s)
-  too-long h = refused (λ e. let l : length s ≤ mostUnionBytes sheetWidth = at-most e in omega arith)
-
   -- the count, in the range that the code names or out of it
   module _ (count : ℕ) (d : count ≡ memberCount s) where
     pub too-few : count < 1 → false ≡ not (refuses6 p sheetWidth arity s)
-    too-few h = refused (λ e. let a = accepted e in omega arith)
+    too-few h = refused p s arity (λ e. let a = accepted p s arity e in omega arith)
 
     pub too-many : (n : ℕ) → n ≤ count → leb (mostMembers + 1) n ≡ true → false ≡ not (refuses6 p sheetWidth arity s)
-    too-many n h k = refused (λ e. let a = accepted e in omega (arith, leb-true (mostMembers + 1) n k))
+    too-many n h k = refused p s arity (λ e. let a = accepted p s arity e in omega (arith, leb-true (mostMembers + 1) n k))
 
     pub members-tell : 1 ≤ count → (n : ℕ) → count < n → leb n (mostMembers + 1) ≡ true → (r : Bool)
         → r ≡ (eqb (memberStart sheetWidth s count) (length s) && all (memberSound p sheetWidth arity s) (numbers 0 count))

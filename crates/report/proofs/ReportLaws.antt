@@ -15,11 +15,11 @@ use borrow.Author.Tests.{eq-eqb, ne-eqb}
 use mir.Syntax.{w64}
 use mir.Val.{Fits}
 use Rattle.words.specs.Limits.{objectBound}
-use Rattle.report.specs.Report.{newline, space, refusedText, acceptedText, decimalOf, separator, objectAt, objectsAt, line, linesAt}
-use Rattle.report.specs.Report.{firstLine, report}
+use Rattle.promises.specs.Report.{newline, space, refusedText, acceptedText, decimalOf, separator, objectAt, objectsAt, line, linesAt}
+use Rattle.promises.specs.Report.{firstLine, report}
 use Rattle.report.specs.Put.{Put}
 use Rattle.report.specs.Laws.Decimal.{fewest-decimal, short-decimal}
-use Rattle.report.specs.Laws.Printing.{refused-report, listed-report}
+use Rattle.promises.specs.Laws.Printing.{refused-report, listed-report}
 use Rattle.io.specs.Counts.{Counts}
 use Rattle.io.specs.Digits.{digits, Fewest}
 

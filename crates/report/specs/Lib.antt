@@ -1,5 +1,3 @@
-pub mod Ascii
-pub mod Report
-pub mod Text
+-- What the functions that put text promise.
 pub mod Put
 pub mod Laws

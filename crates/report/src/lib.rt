@@ -6,7 +6,7 @@ ghost use Prim.Native.Nat.{_+_, _*_, _≤_, _<_};
 ghost use mathlib.Core.Bool.{cond};
 ghost use mathlib.Core.List.{_∷_, [], _++_};
 ghost use lib.ListN.{length, take};
-ghost use Rattle.report.specs.Report.{decimalOf, objectAt, objectsAt, line, linesAt, firstLine, newline, space, report as reportOf};
+ghost use Rattle.promises.specs.Report.{decimalOf, objectAt, objectsAt, line, linesAt, firstLine, newline, space, report as reportOf};
 ghost use Rattle.report.specs.Put.{Put};
 ghost use Rattle.io.specs.Counts.{Counts};
 

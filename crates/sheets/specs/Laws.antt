@@ -5,6 +5,7 @@ pub mod PartnerLaws
 pub mod RuleRefusals
 pub mod QuestionRefusals
 pub mod UnionRefusals
+pub mod UnionLengths
 pub mod FactRefusals
 pub mod OneList
 pub mod Numbers

@@ -11,10 +11,10 @@ use borrow.Author.Needs.{needs}
 use lib.Dec.{T, leb·zero}
 use lib.IntN.{ℤ, pos, negsuc}
 use lib.Signed.{leZ}
-use Rattle.answering.specs.Drawing.{Outcome, outcome}
-use Rattle.report.specs.Report.{report}
-use Rattle.report.specs.Text.{listRoom, textRoom, textFor}
-use Rattle.report.specs.Laws.Printing.{fits, list-long}
+use Rattle.promises.specs.Drawing.{Outcome, outcome}
+use Rattle.promises.specs.Report.{report}
+use Rattle.promises.specs.Text.{listRoom, textRoom, textFor}
+use Rattle.promises.specs.Laws.Printing.{fits, list-long}
 use Rattle.takwishan.specs.Files.{rulesLimit, questionLimit, unionLimit, factsLimit}
 use Rattle.takwishan.specs.Files.{rulesFile, questionFile, unionFile, factsFile, fileName, Reads, Grown, Taken}
 use Rattle.takwishan.specs.Laws.Whole.{whole-files}

@@ -7,8 +7,8 @@ use mathlib.Core.Bool.{Bool, false}
 use mathlib.Core.List.{List}
 use lib.ListN.{length, take}
 use Rattle.words.specs.Limits.{sheetWidth, mostRuleBytes, mostQuestionBytes, mostUnionBytes, mostFactBytes}
-use Rattle.report.specs.Ascii.{ascii}
-use Rattle.report.specs.Text.{textFor}
+use Rattle.promises.specs.Ascii.{ascii}
+use Rattle.promises.specs.Text.{textFor}
 use Rattle.io.specs.Counts.{Counts}
 
 -- ---- names and limits

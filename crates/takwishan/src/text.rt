@@ -6,7 +6,7 @@ use report::put_report;
 ghost use mathlib.Core.Path.{_≡_};
 ghost use Prim.Native.Nat.{_/_, _≤_};
 ghost use lib.ListN.{length, take, getD};
-ghost use Rattle.report.specs.Text.{listRoom, textRoom, textFor};
+ghost use Rattle.promises.specs.Text.{listRoom, textRoom, textFor};
 ghost use Rattle.takwishan.specs.Files.{Filled, TextOf};
 ghost use Rattle.io.specs.Counts.{Counts};
 

@@ -40,3 +40,5 @@ pub mod Birth
 pub mod Budget
 pub mod Completeness
 pub mod Agreement
+pub mod Growth
+pub mod Bounded

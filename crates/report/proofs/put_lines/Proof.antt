@@ -1,6 +1,6 @@
 use Prim.Native.Nat.{_+_, _*_, _≤_}
 use lib.ListN.{length}
-use Rattle.report.specs.Report.{linesAt}
+use Rattle.promises.specs.Report.{linesAt}
 use Rattle.report.proofs.ReportLaws.{Left, laws}
 use Rattle.report.proofs.put_lines.Statement.{statement}
 use Rattle.report.proofs.put_lines.Tie as tie

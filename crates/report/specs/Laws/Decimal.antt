@@ -8,7 +8,7 @@ use mathlib.Core.List.{[], _∷_, _++_}
 use lib.Dec.{ltb}
 use lib.ListN.{length, length-append}
 use borrow.Author.Tests.{lt-ltb, le-ltb}
-use Rattle.report.specs.Report.{decimalIn, decimalOf}
+use Rattle.promises.specs.Report.{decimalIn, decimalOf}
 use Rattle.io.specs.Digits.{glyph, digits, Fewest}
 
 glyph-digit : (d : ℕ) → d < 10 → glyph d ≡ 48 + d

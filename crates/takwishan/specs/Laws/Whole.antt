@@ -6,11 +6,11 @@ use native.Mathlib.Omega.{arith}
 use mathlib.Core.List.{List}
 use lib.ListN.{length, take}
 use lib.Seq.{getD-take, take-all}
-use Rattle.answering.specs.Drawing.{Outcome}
-use Rattle.report.specs.Report.{report}
-use Rattle.report.specs.Text.{listRoom, textFor}
+use Rattle.promises.specs.Drawing.{Outcome}
+use Rattle.promises.specs.Report.{report}
+use Rattle.promises.specs.Text.{listRoom, textFor}
 use Rattle.takwishan.specs.Files.{rulesLimit, questionLimit, unionLimit, factsLimit, HoldsFile, Filled, TextOf}
-use Rattle.takwishan.specs.Laws.Cut.{cutTo, cut-same}
+use Rattle.promises.specs.Laws.Cut.{cutTo, cut-same}
 
 -- one byte beyond each limit is enough
 pub read-enough : (rules question union facts : List ℕ)

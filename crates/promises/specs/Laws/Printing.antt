@@ -18,14 +18,14 @@ use Rattle.sheets.specs.Partners.{partners01}
 use Rattle.sheets.specs.AnswerList.{tupleBytes, listBytes}
 use Rattle.sheets.specs.Packing.{bytesOf, packRecords}
 use Rattle.sheets.specs.Laws.QuestionRefusals.{question-arity}
-use Rattle.answering.specs.Laws.CheckPromises.{zero-accepts, zero-means as accepted-means}
-use Rattle.answering.specs.Checking.{AcceptedFor}
-use Rattle.answering.specs.Drawing.{theAnswers, termsOf, outcome}
-use Rattle.answering.specs.Laws.DrawPromises.{zero-means, refused-means, count-means, list-means}
-use Rattle.answering.specs.Laws.AnswerBytes.{length-tuple, length-answers}
-use Rattle.answering.specs.Laws.Drawing.{answers-known}
-use Rattle.report.specs.Report.{refusedText, acceptedText, objectAt, objectsAt, line, linesAt, firstLine, report}
-use Rattle.report.specs.Text.{listRoom, drawn, textFor}
+use Rattle.promises.specs.Laws.CheckPromises.{zero-accepts, zero-means as accepted-means}
+use Rattle.promises.specs.Checking.{AcceptedFor}
+use Rattle.promises.specs.Drawing.{theAnswers, termsOf, outcome}
+use Rattle.promises.specs.Laws.DrawPromises.{zero-means, refused-means, count-means, list-means}
+use Rattle.promises.specs.Laws.AnswerBytes.{length-tuple, length-answers}
+use Rattle.promises.specs.Laws.Drawing.{answers-known}
+use Rattle.promises.specs.Report.{refusedText, acceptedText, objectAt, objectsAt, line, linesAt, firstLine, report}
+use Rattle.promises.specs.Text.{listRoom, drawn, textFor}
 
 -- ---- a tuple's bytes read again
 

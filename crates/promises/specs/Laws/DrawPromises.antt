@@ -13,14 +13,14 @@ use Rattle.theory.specs.Laws.Answers.{before-irreflexive, answers-ascending}
 use Rattle.theory.specs.Laws.Ascending.{ascending-unrepeated}
 use Rattle.sheets.specs.AnswerList.{tupleSize, listBytes}
 use Rattle.sheets.specs.Refusals.{numberOf}
-use Rattle.answering.specs.TheSheets.{theRules, theQuestion, theUnion, theFacts, SoundFacts}
-use Rattle.answering.specs.Checking.{AcceptedFor, SoundAndAccepted}
-use Rattle.answering.specs.Drawing.{theAnswers, termsOf, bytesNeeded, Outcome, outcomeBy, Registered, StandsAt, Listed, allSheets}
-use Rattle.answering.specs.Drawing.{refusalToDraw, allConditions, outcome}
-use Rattle.answering.specs.Laws.CheckPromises.{zero-accepts, zero-means as accepted-means}
-use Rattle.answering.specs.Laws.AnswerBytes.{listed-iff, listed-ascending, listed-rest}
-use Rattle.answering.specs.Laws.Drawing.{positive-iff, zero-none, none-iff, zero-sound, fourteen-sound, answers-known, answers-second}
-use Rattle.answering.specs.Laws.Drawing.{same-count}
+use Rattle.promises.specs.TheSheets.{theRules, theQuestion, theUnion, theFacts, SoundFacts}
+use Rattle.promises.specs.Checking.{AcceptedFor, SoundAndAccepted}
+use Rattle.promises.specs.Drawing.{theAnswers, termsOf, bytesNeeded, Outcome, outcomeBy, Registered, StandsAt, Listed, allSheets}
+use Rattle.promises.specs.Drawing.{refusalToDraw, allConditions, outcome}
+use Rattle.promises.specs.Laws.CheckPromises.{zero-accepts, zero-means as accepted-means}
+use Rattle.promises.specs.Laws.AnswerBytes.{listed-iff, listed-ascending, listed-rest}
+use Rattle.promises.specs.Laws.Drawing.{positive-iff, zero-none, none-iff, zero-sound, fourteen-sound, answers-known, answers-second}
+use Rattle.promises.specs.Laws.Drawing.{same-count}
 
 module _ (rules question union facts : List ℕ) (room : ℕ) where
   abbrev drawn : Outcome

@@ -7,7 +7,7 @@ use lib.Dec.{eqb, ltb}
 use lib.ListN.{getD}
 use Rattle.words.specs.Limits.{objectBytes}
 use Rattle.sheets.specs.AnswerList.{tupleSize}
-use Rattle.report.specs.Ascii.{ascii}
+use Rattle.promises.specs.Ascii.{ascii}
 
 abbrev pub newline : ℕ
 newline = 10

@@ -2,8 +2,8 @@
 use Prim.Native.Nat.{ℕ, _+_, _*_}
 use mathlib.Core.List.{List}
 use Rattle.sheets.specs.Format.{termCount}
-use Rattle.answering.specs.Drawing.{Outcome, outcome}
-use Rattle.report.specs.Report.{report}
+use Rattle.promises.specs.Drawing.{Outcome, outcome}
+use Rattle.promises.specs.Report.{report}
 
 -- "Its answer list has 16,384 bytes."
 abbrev pub listRoom : ℕ

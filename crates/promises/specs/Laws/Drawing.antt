@@ -20,18 +20,18 @@ use Rattle.theory.specs.Laws.Ascending.{inserted-mem}
 use Rattle.theory.specs.Laws.Matches.{found-length}
 use Rattle.theory.specs.Laws.Pigeonhole.{length-dropAt}
 use Rattle.theory.specs.Laws.Answers.{answers-iff, insertTuple-inserts}
+use Rattle.theory.specs.Laws.Bounded.{found-bounded}
 use Rattle.words.specs.Limits.{sheetWidth, objectBound}
 use Rattle.sheets.specs.Partners.{partners01}
 use Rattle.sheets.specs.Refusals.{Sheets, checking, drawing, onlyFacts, refusals, testsFor, refusalOf, numberOf, factRefusals}
 use Rattle.sheets.specs.Laws.Tests.{ltb-tells, lt-or-le}
 use Rattle.sheets.specs.Laws.OneList.{number-zero, checking-first, facts-only, drawn, checked-accepted, refused-iff, passed-iff}
 use Rattle.sheets.specs.Laws.ObjectRange.{facts-in-range, constants-in-range}
-use Rattle.answer_search.specs.Laws.InRange.{tuples-in-range}
-use Rattle.answering.specs.TheSheets.{theRules, theQuestion, theUnion, theFacts, theRefusal, NotRefused, theConditions, SoundFacts}
-use Rattle.answering.specs.Checking.{sheetsOf, AcceptedFor, SoundAndAccepted}
-use Rattle.answering.specs.Laws.CheckPromises.{zero-accepts, zero-means}
-use Rattle.answering.specs.Laws.Checking.{numbered}
-use Rattle.answering.specs.Laws.Conditions.{with-last, none-with-last}
+use Rattle.promises.specs.TheSheets.{theRules, theQuestion, theUnion, theFacts, theRefusal, NotRefused, theConditions, SoundFacts}
+use Rattle.promises.specs.Checking.{sheetsOf, AcceptedFor, SoundAndAccepted}
+use Rattle.promises.specs.Laws.CheckPromises.{zero-accepts, zero-means}
+use Rattle.promises.specs.Laws.Checking.{numbered}
+use Rattle.promises.specs.Laws.Conditions.{with-last, none-with-last}
 
 -- ---- one more refusal at the end of the list
 
@@ -157,7 +157,7 @@ module _ (rules question union facts : List ℕ) where
         let sound = checked-accepted partners01 sheetWidth (sheetsOf rules question union) accepted .0 in
         let drawn-by = inserted-mem Before insertTuple insertTuple-inserts (flatMap find (theUnion union)) m in
         let (n, k, f) = flatMap-found find (theUnion union) drawn-by in (
-          tuples-in-range F (theUnion union) (facts-in-range partners01 facts) (constants-in-range partners01 union) .objects t drawn-by,
+          found-bounded objectBound F (n .query) (facts-in-range partners01 facts) (constants-in-range partners01 union n k) t f,
           found-length F (n .query) t f ∙ sound n k .arity-is,
         )
 

@@ -5,7 +5,7 @@ use Prim.Native.Nat.{ℕ}
 use mathlib.Core.List.{List, []}
 use Rattle.theory.specs.Union.{Accepted}
 use Rattle.sheets.specs.Refusals.{Sheets, onlyRules, questionAndUnion, checking, numberOf}
-use Rattle.answering.specs.TheSheets.{theRules, theQuestion, theUnion, theRefusal, NotRefused}
+use Rattle.promises.specs.TheSheets.{theRules, theQuestion, theUnion, theRefusal, NotRefused}
 
 module _ (rules question union : List ℕ) where
   abbrev pub sheetsOf : Sheets

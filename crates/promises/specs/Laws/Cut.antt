@@ -14,7 +14,7 @@ use borrow.Author.Tests.{lt-ltb}
 use Rattle.theory.specs.Lists.{guard}
 use Rattle.theory.specs.Refusals.{firstRefusal}
 use Rattle.theory.specs.Union.{check}
-use Rattle.words.specs.Limits.{sheetWidth}
+use Rattle.words.specs.Limits.{sheetWidth, mostRuleBytes, mostQuestionBytes, mostUnionBytes, mostFactBytes}
 use Rattle.sheets.specs.Format.{termCount}
 use Rattle.sheets.specs.Partners.{partners01}
 use Rattle.sheets.specs.Refusals.{Sheets, ruleRefusals, questionRefusals, factRefusals}
@@ -23,9 +23,8 @@ use Rattle.sheets.specs.Reading.{rulesAsRead, questionAsRead, unionAsRead}
 use Rattle.sheets.specs.Laws.Tests.{lt-or-le}
 use Rattle.sheets.specs.Laws.QuestionRefusals.{not3-iff, counts-in-range}
 use Rattle.sheets.specs.Laws.OneList.{checking-first, drawing-first}
-use Rattle.read_union.proofs.UnionLaws.{too-long}
-use Rattle.answering.specs.Drawing.{Outcome, outcomeBy, outcome, theAnswers, bytesNeeded}
-use Rattle.takwishan.specs.Files.{rulesLimit, questionLimit, unionLimit, factsLimit}
+use Rattle.sheets.specs.Laws.UnionLengths.{too-long}
+use Rattle.promises.specs.Drawing.{Outcome, outcomeBy, outcome, theAnswers, bytesNeeded}
 
 -- what is read of a file: its bytes up to its end, or to one beyond the limit
 abbrev pub cutTo : ℕ → List ℕ → List ℕ
@@ -37,15 +36,15 @@ or-true : (b : Bool) → b || true ≡ true
 or-true true = refl
 or-true false = refl
 
-long-rules : (s : List ℕ) → rulesLimit < length s → firstRefusal (ruleRefusals s) ≡ some 1
+long-rules : (s : List ℕ) → mostRuleBytes < length s → firstRefusal (ruleRefusals s) ≡ some 1
 unfolding firstRefusal ruleRefusals refuses1
-long-rules s h = rw (lt-ltb rulesLimit (length s) h, or-true)
+long-rules s h = rw (lt-ltb mostRuleBytes (length s) h, or-true)
 
-long-facts : (s : List ℕ) → factsLimit < length s → firstRefusal (factRefusals sheetWidth s) ≡ some 12
+long-facts : (s : List ℕ) → mostFactBytes sheetWidth < length s → firstRefusal (factRefusals sheetWidth s) ≡ some 12
 unfolding firstRefusal factRefusals refuses12
-long-facts s h = rw (lt-ltb factsLimit (length s) h, or-true)
+long-facts s h = rw (lt-ltb (mostFactBytes sheetWidth) (length s) h, or-true)
 
-question-over : (s : List ℕ) → questionLimit < length s → refuses3 sheetWidth s ≡ true
+question-over : (s : List ℕ) → mostQuestionBytes sheetWidth < length s → refuses3 sheetWidth s ≡ true
 question-over s h = go (refuses3 sheetWidth s) refl
   where
     go : (b : Bool) → refuses3 sheetWidth s ≡ b → b ≡ true
@@ -55,7 +54,7 @@ question-over s h = go (refuses3 sheetWidth s) refl
         let (terms, one, atoms) = counts-in-range sheetWidth s 0 sound in
         absurd (omega arith)
 
-long-question : (s : List ℕ) → questionLimit < length s → firstRefusal (questionRefusals partners01 sheetWidth s) ≡ some 3
+long-question : (s : List ℕ) → mostQuestionBytes sheetWidth < length s → firstRefusal (questionRefusals partners01 sheetWidth s) ≡ some 3
 unfolding firstRefusal questionRefusals
 long-question s h = rw (question-over s h)
 
@@ -63,7 +62,7 @@ not-false : (b : Bool) → false ≡ not b → b ≡ true
 not-false true e = refl
 not-false false e = absurd (let z : _≡_ {A = ℕ} 0 1 = cc in omega arith)
 
-long-union : (arity : ℕ) (s : List ℕ) → unionLimit < length s → firstRefusal ((6, refuses6 partners01 sheetWidth arity s) ∷ []) ≡ some 6
+long-union : (arity : ℕ) (s : List ℕ) → mostUnionBytes sheetWidth < length s → firstRefusal ((6, refuses6 partners01 sheetWidth arity s) ∷ []) ≡ some 6
 unfolding firstRefusal
 long-union arity s h = rw (not-false (refuses6 partners01 sheetWidth arity s) (too-long partners01 s arity h))
 
@@ -107,14 +106,14 @@ module _ (room : ℕ) where
 
   -- ---- what a sheet over its limit comes to: nothing that is looked at after it counts
 
-  over-rules : (r q u f : List ℕ) → rulesLimit < length r → outcome r q u f room ≡ outcomeBy room [] (some 1)
+  over-rules : (r q u f : List ℕ) → mostRuleBytes < length r → outcome r q u f room ≡ outcomeBy room [] (some 1)
   unfolding orElse
   over-rules r q u f h =
       is-by r q u f
       ∙ ap (λ (o : Option ℕ). byRefusals o (ofQuestion q) (ofBytes q u) (ofUnion r q u) (ofFacts f) (ofList q u f) (theAnswers u f))
       (long-rules r h)
 
-  over-question : (r q u f : List ℕ) → questionLimit < length q → outcome r q u f room ≡ outcomeBy room [] (orElse (ofRules r) (some 3))
+  over-question : (r q u f : List ℕ) → mostQuestionBytes sheetWidth < length q → outcome r q u f room ≡ outcomeBy room [] (orElse (ofRules r) (some 3))
   unfolding orElse
   over-question r q u f h =
       is-by r q u f
@@ -128,7 +127,7 @@ module _ (room : ℕ) where
       stop none = refl
       stop (some n) = refl
 
-  over-union : (r q u f : List ℕ) → unionLimit < length u
+  over-union : (r q u f : List ℕ) → mostUnionBytes sheetWidth < length u
       → outcome r q u f room ≡ outcomeBy room [] (orElse (ofRules r) (orElse (ofQuestion q) (some 6)))
   unfolding orElse
   over-union r q u f h =
@@ -144,7 +143,7 @@ module _ (room : ℕ) where
       stop none (some n) = refl
       stop (some n) p = refl
 
-  over-facts : (r q u f : List ℕ) → factsLimit < length f
+  over-facts : (r q u f : List ℕ) → mostFactBytes sheetWidth < length f
       → outcome r q u f room
       ≡ outcomeBy room [] (orElse (orElse (ofRules r) (orElse (ofQuestion q) (orElse (ofBytes q u) (ofUnion r q u)))) (some 12))
   unfolding orElse
@@ -171,13 +170,13 @@ module _ (room : ℕ) where
       ]
 
   pub cut-same : (r q u f : List ℕ)
-      → outcome (cutTo rulesLimit r) (cutTo questionLimit q) (cutTo unionLimit u) (cutTo factsLimit f) room ≡ outcome r q u f room
+      → outcome (cutTo mostRuleBytes r) (cutTo (mostQuestionBytes sheetWidth) q) (cutTo (mostUnionBytes sheetWidth) u) (cutTo (mostFactBytes sheetWidth) f) room ≡ outcome r q u f room
   cut-same r q u f =
-      let q′ : List ℕ = cutTo questionLimit q in
-      let u′ : List ℕ = cutTo unionLimit u in
-      let f′ : List ℕ = cutTo factsLimit f in
-      one-cut rulesLimit r (λ s. outcome s q′ u′ f′ room)
-      (λ l′ l. over-rules (cutTo rulesLimit r) q′ u′ f′ l′ ∙ sym (over-rules r q′ u′ f′ l))
-      ∙ one-cut questionLimit q (λ s. outcome r s u′ f′ room) (λ l′ l. over-question r q′ u′ f′ l′ ∙ sym (over-question r q u′ f′ l))
-      ∙ one-cut unionLimit u (λ s. outcome r q s f′ room) (λ l′ l. over-union r q u′ f′ l′ ∙ sym (over-union r q u f′ l))
-      ∙ one-cut factsLimit f (λ s. outcome r q u s room) (λ l′ l. over-facts r q u f′ l′ ∙ sym (over-facts r q u f l))
+      let q′ : List ℕ = cutTo (mostQuestionBytes sheetWidth) q in
+      let u′ : List ℕ = cutTo (mostUnionBytes sheetWidth) u in
+      let f′ : List ℕ = cutTo (mostFactBytes sheetWidth) f in
+      one-cut mostRuleBytes r (λ s. outcome s q′ u′ f′ room)
+      (λ l′ l. over-rules (cutTo mostRuleBytes r) q′ u′ f′ l′ ∙ sym (over-rules r q′ u′ f′ l))
+      ∙ one-cut (mostQuestionBytes sheetWidth) q (λ s. outcome r s u′ f′ room) (λ l′ l. over-question r q′ u′ f′ l′ ∙ sym (over-question r q u′ f′ l))
+      ∙ one-cut (mostUnionBytes sheetWidth) u (λ s. outcome r q s f′ room) (λ l′ l. over-union r q u′ f′ l′ ∙ sym (over-union r q u f′ l))
+      ∙ one-cut (mostFactBytes sheetWidth) f (λ s. outcome r q u s room) (λ l′ l. over-facts r q u f′ l′ ∙ sym (over-facts r q u f l))

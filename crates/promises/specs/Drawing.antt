@@ -14,8 +14,8 @@ use Rattle.theory.specs.Evaluation.{Before, answersOf}
 use Rattle.words.specs.Limits.{objectBound}
 use Rattle.sheets.specs.AnswerList.{tupleSize, tupleBytes, listBytes}
 use Rattle.sheets.specs.Refusals.{Sheets, drawing}
-use Rattle.answering.specs.TheSheets.{theRules, theQuestion, theUnion, theFacts, theRefusal, theConditions, SoundFacts}
-use Rattle.answering.specs.Checking.{SoundAndAccepted}
+use Rattle.promises.specs.TheSheets.{theRules, theQuestion, theUnion, theFacts, theRefusal, theConditions, SoundFacts}
+use Rattle.promises.specs.Checking.{SoundAndAccepted}
 
 -- "In lists, counts and refusals, 'answers' are what the first reader finds": ascending, each once.
 abbrev pub theAnswers : List ℕ → List ℕ → List (List ℕ)

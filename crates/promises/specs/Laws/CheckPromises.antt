@@ -11,9 +11,9 @@ use Rattle.words.specs.Limits.{sheetWidth}
 use Rattle.sheets.specs.Partners.{partners01}
 use Rattle.sheets.specs.Refusals.{checking}
 use Rattle.sheets.specs.Laws.OneList.{passed-iff, number-zero, checked-accepted}
-use Rattle.answering.specs.TheSheets.{theRules, theQuestion, theUnion, theFacts, theConditions, SoundFacts}
-use Rattle.answering.specs.Checking.{sheetsOf, checkNumber, AcceptedFor, SoundAndAccepted}
-use Rattle.answering.specs.Laws.Checking.{zero-iff, positive-iff}
+use Rattle.promises.specs.TheSheets.{theRules, theQuestion, theUnion, theFacts, theConditions, SoundFacts}
+use Rattle.promises.specs.Checking.{sheetsOf, checkNumber, AcceptedFor, SoundAndAccepted}
+use Rattle.promises.specs.Laws.Checking.{zero-iff, positive-iff}
 
 module _ (rules question union : List ℕ) where
   -- "A call that isn't refused returns number 0", and one that is refused does not.

@@ -1,0 +1,9 @@
+-- The promises in 01's words, and what they rest on.
+pub mod Conditions
+pub mod Checking
+pub mod CheckPromises
+pub mod AnswerBytes
+pub mod Drawing
+pub mod DrawPromises
+pub mod Printing
+pub mod Cut

@@ -1,0 +1,1 @@
+// No code: what the calls and the program promise.
