@@ -1,2 +1,1 @@
-pub mod MembersLaws
-pub mod DrawLaws
+pub mod StageLaws

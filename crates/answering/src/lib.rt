@@ -1,8 +1,8 @@
 // The library: a union checked against rules and question, answers drawn with it from facts, and a member shown.
-use answer_stages::Answers;
+use answer_draw::Answers;
+use answer_draw::refuse;
 use answer_stages::draw_members;
-use answer_stages::members::check_members;
-use answer_stages::refuse;
+use check_sheet::check_members;
 use read_question::read_question;
 use read_records::partners::default_partners;
 use read_rules::read_rules;

@@ -1,9 +1,10 @@
 -- What is known of the table that a union's members stand in, in a row of 16 words each.
+use mathlib.Core.Path.{_≡_}
 use Prim.Native.Nat.{ℕ, _+_, _*_, _≤_, _<_}
 use mathlib.Core.List.{List}
 use lib.ListN.{length, getD, drop}
 use Rattle.theory.specs.Lists.{_∈_, Unrepeated}
-use Rattle.theory.specs.Syntax.{var, terms, Member}
+use Rattle.theory.specs.Syntax.{var, terms, Member, UCQ}
 use Rattle.words.specs.Words.{memberOf, stride}
 use Rattle.words.specs.Limits.{wordTermBound}
 
@@ -27,3 +28,7 @@ memberIn table j = memberOf (rowAt table j)
 pub record Rows (table : List ℕ) (n : ℕ) : Type 0 where
   pub long : stride * n ≤ length table
   pub each : (j : ℕ) → j < n → Row (rowAt table j)
+
+-- every member has so many answer terms: 01 refuses any other union
+pub record Arity (union : UCQ) (terms : ℕ) : Type 0 where
+  pub each : (m : Member) → m ∈ union → length (m .query .answers) ≡ terms

@@ -1,0 +1,91 @@
+-- Facts and members as they were read are what drawing asks for, and a refusal of theirs is what the call gives.
+use mathlib.Core.Path.{_≡_, subst}
+use Prim.Native.Nat.{ℕ, _≤_, _<_}
+use native.Mathlib.Omega.{arith}
+use mathlib.Core.List.{List}
+use lib.ListN.{length, replicate}
+use borrow.Author.Needs.{needs}
+use Rattle.theory.specs.Lists.{_∈_}
+use Rattle.theory.specs.Syntax.{const, Member, Rule, Query, UCQ}
+use Rattle.theory.specs.Evaluation.{answersOf}
+use Rattle.theory.specs.Laws.Lists.{mem-along}
+use Rattle.words.specs.Limits.{sheetWidth, objectBound, mostFacts}
+use Rattle.words.specs.Words.{unionIn, factsIn, Small}
+use Rattle.words.specs.Rows.{Rows, Arity}
+use Rattle.words.specs.declared.QueryWords.{QueryWords}
+use Rattle.sheets.specs.Reading.{unionAsRead, factsAsRead}
+use Rattle.sheets.specs.Laws.ObjectRange.{facts-in-range}
+use Rattle.read_facts.specs.FactSheets.{FactsRead}
+use Rattle.check_sheet.specs.Members.{Members, unionNumber, MembersRead}
+use Rattle.answer_search.specs.Search.{TuplesInRange}
+use Rattle.answer_search.specs.Laws.InRange.{tuples-in-range}
+use Rattle.answer_draw.specs.declared.Answers.{Answers}
+use Rattle.answer_draw.specs.Gives.{roomNumber, GivesAnswers}
+use Rattle.answer_draw.specs.GivesLaws.{refused-first, goes-on}
+use Rattle.answer_stages.specs.Stages.{factsNumber, GivesFromFacts, GivesFromUnion}
+
+-- ---- the members in the table
+
+pub rows-there : (table : List ℕ) (n terms : ℕ) → Members table n terms → Rows table n
+rows-there table n terms m = m .rows
+
+pub arity-there : (table : List ℕ) (n terms : ℕ) → Members table n terms → Arity (unionIn table n) terms
+arity-there table n terms m = m .arity
+
+-- the objects among the members' answer terms are 16-bit numbers
+pub record Constants (table : List ℕ) (n : ℕ) : Type 0 where
+  pub each : (m : Member) → m ∈ unionIn table n → (c : ℕ) → const c ∈ m .query .answers → c < objectBound
+
+pub constants-there : (table : List ℕ) (n terms : ℕ) → Members table n terms → Constants table n
+constants-there table n terms m = record { each = m .constants }
+
+-- ---- facts, as they were read
+
+module _ (p s words : List ℕ) (number count : ℕ) (read : FactsRead p s words number count) where
+  pub facts-refused : (room terms : ℕ) (union : UCQ) (r : Answers) (list : List ℕ) → (number ≡ 0 → ⊥)
+      → (r .number ≡ number) × (r .count ≡ 0) × (list ≡ replicate room 0) → GivesFromFacts p s union terms room r list
+  facts-refused room terms union r list h g =
+      refused-first room (answersOf (factsAsRead p sheetWidth s) union) number (factsNumber s) _ r list (read .sheet .number-is) h g
+
+  pub facts-within : (size : ℕ) → length words ≡ size → size ≡ mostFacts → count ≤ length words
+  facts-within size e d = let l : count ≤ mostFacts = read .sheet .few in omega arith
+
+  module _ (zero : number ≡ 0) where
+    pub found-in-range : (table : List ℕ) (n : ℕ) → Constants table n → TuplesInRange (factsIn words count) (unionIn table n)
+    found-in-range table n members =
+        tuples-in-range (factsIn words count) (unionIn table n) (λ f m. facts-in-range p s f (mem-along (read .sheet .read zero) m))
+        (members .each)
+
+    pub facts-pass : (room terms : ℕ) (union : UCQ) (r : Answers) (list : List ℕ)
+        → GivesAnswers (factsIn words count) union terms room r list → GivesFromFacts p s union terms room r list
+    facts-pass room terms union r list g =
+        goes-on room (answersOf (factsAsRead p sheetWidth s) union) number (factsNumber s)
+        (roomNumber room terms (answersOf (factsAsRead p sheetWidth s) union)) r list (read .sheet .number-is) zero
+        (subst (λ fs. GivesAnswers fs union terms room r list) (read .sheet .read zero) g)
+
+-- ---- the union, as it was read
+
+pub terms-few : (q : QueryWords) → Small q → q .terms ≤ 4
+terms-few q small = small .few-terms
+
+module _ (p : List ℕ) (rules : List Rule) (q : Query) (terms : ℕ) (s table : List ℕ) (number count : ℕ)
+    (read : MembersRead p rules q terms s table number count) where
+  pub members-there : number ≡ 0 → Members table count terms
+  members-there zero = read .members zero
+
+  pub union-refused : (facts : List ℕ) (room : ℕ) (r : Answers) (list : List ℕ) → (number ≡ 0 → ⊥)
+      → (r .number ≡ number) × (r .count ≡ 0) × (list ≡ replicate room 0) → GivesFromUnion p rules q terms s facts room r list
+  union-refused facts room r list h g =
+      refused-first room (answersOf (factsAsRead p sheetWidth facts) (unionAsRead p sheetWidth s)) number
+      (unionNumber p rules q terms s) _ r list
+      (read .number-is) h g
+
+  pub union-passes : (facts : List ℕ) (room : ℕ) (r : Answers) (list : List ℕ) → number ≡ 0
+      → GivesFromFacts p facts (unionIn table count) terms room r list → GivesFromUnion p rules q terms s facts room r list
+  union-passes facts room r list zero g =
+      goes-on room (answersOf (factsAsRead p sheetWidth facts) (unionAsRead p sheetWidth s)) number (unionNumber p rules q terms s) _ r list
+      (read .number-is) zero (subst (λ u. GivesFromFacts p facts u terms room r list) (read .union-is zero) g)
+
+pub ruleset factLaws = (needs, rows-there, arity-there, constants-there, facts-refused, facts-within, found-in-range, facts-pass)
+
+pub ruleset unionLaws = (needs, terms-few, members-there, union-refused, union-passes)
