@@ -26,9 +26,9 @@ use Rattle.query_sets.specs.Laws.Digits.{holds-none}
 use Rattle.words.specs.Words.{queryOf, Small}
 use Rattle.words.specs.declared.QueryWords.{QueryWords}
 use Rattle.words.specs.Laws.LowVariables.{atom-low}
-use Rattle.query_renaming.specs.Partial.{entry, mayBecome, Sends}
+use Rattle.query_partial.specs.Partial.{entry, mayBecome, Sends}
 use Rattle.query_renaming.specs.Search.{Ready, Begun, Follows, Renaming, GoesOn, Offers, Allows, Judges, DecidesAlike}
-use Rattle.query_renaming.specs.declared.partial.Partial.{Partial}
+use Rattle.query_partial.specs.declared.Partial.{Partial}
 use Rattle.query_renaming.specs.declared.search.Compared.{Compared}
 
 -- ---- a promising partial renaming that sends every variable is a renaming

@@ -1,4 +1,2 @@
 -- What the contracts cite.
-pub mod Gathered
-pub mod Partial
 pub mod Search

@@ -8,8 +8,8 @@ use Rattle.theory.specs.Syntax.{var, Query, terms, sameTerm}
 use Rattle.theory.specs.Renaming.{Alike, promising}
 use Rattle.query_sets.specs.Sets.{holds}
 use Rattle.words.specs.Words.{queryOf, Small}
-use Rattle.query_renaming.specs.Partial.{entry, mayBecome}
-use Rattle.query_renaming.specs.declared.partial.Partial.{Partial}
+use Rattle.query_partial.specs.Partial.{entry, mayBecome}
+use Rattle.query_partial.specs.declared.Partial.{Partial}
 use Rattle.query_renaming.specs.declared.search.Compared.{Compared}
 
 -- two queries that were read, with the sets of their variables

@@ -1,11 +1,11 @@
 // The search for a renaming: source variables rising, targets rising, so that the first one found is the smallest.
-use crate::partial::Partial;
-use crate::partial::assign;
-use crate::partial::nothing;
-use crate::partial::promising;
-use crate::profile::beside;
-use crate::profile::beside_alike;
-use crate::profile::spread_alike;
+use query_partial::Partial;
+use query_partial::assign;
+use query_partial::nothing;
+use query_partial::promising;
+use query_profile::beside;
+use query_profile::beside_alike;
+use query_profile::spread_alike;
 use query_sets::has;
 use query_variables::used::used;
 use words::QueryWords;
@@ -15,7 +15,7 @@ ghost use Prim.Native.Nat.{_+_, _≤_, _<_};
 ghost use Rattle.theory.specs.Renaming.{alike as alikeIn, promising as promisingIn};
 ghost use Rattle.query_sets.specs.Sets.{holds};
 ghost use Rattle.words.specs.Words.{queryOf, Small};
-ghost use Rattle.query_renaming.specs.Partial.{entry, mayBecome};
+ghost use Rattle.query_partial.specs.Partial.{entry, mayBecome};
 ghost use Rattle.query_renaming.specs.Search.{Ready, Begun, Offers, Allows, Judges, DecidesAlike};
 
 // Two queries with the sets of their variables.

@@ -62,7 +62,8 @@ not-false : (b : Bool) → false ≡ not b → b ≡ true
 not-false true e = refl
 not-false false e = absurd (let z : _≡_ {A = ℕ} 0 1 = cc in omega arith)
 
-long-union : (arity : ℕ) (s : List ℕ) → mostUnionBytes sheetWidth < length s → firstRefusal ((6, refuses6 partners01 sheetWidth arity s) ∷ []) ≡ some 6
+long-union : (arity : ℕ) (s : List ℕ) → mostUnionBytes sheetWidth < length s
+    → firstRefusal ((6, refuses6 partners01 sheetWidth arity s) ∷ []) ≡ some 6
 unfolding firstRefusal
 long-union arity s h = rw (not-false (refuses6 partners01 sheetWidth arity s) (too-long partners01 s arity h))
 
@@ -113,7 +114,8 @@ module _ (room : ℕ) where
       ∙ ap (λ (o : Option ℕ). byRefusals o (ofQuestion q) (ofBytes q u) (ofUnion r q u) (ofFacts f) (ofList q u f) (theAnswers u f))
       (long-rules r h)
 
-  over-question : (r q u f : List ℕ) → mostQuestionBytes sheetWidth < length q → outcome r q u f room ≡ outcomeBy room [] (orElse (ofRules r) (some 3))
+  over-question : (r q u f : List ℕ) → mostQuestionBytes sheetWidth < length q
+      → outcome r q u f room ≡ outcomeBy room [] (orElse (ofRules r) (some 3))
   unfolding orElse
   over-question r q u f h =
       is-by r q u f
@@ -170,13 +172,15 @@ module _ (room : ℕ) where
       ]
 
   pub cut-same : (r q u f : List ℕ)
-      → outcome (cutTo mostRuleBytes r) (cutTo (mostQuestionBytes sheetWidth) q) (cutTo (mostUnionBytes sheetWidth) u) (cutTo (mostFactBytes sheetWidth) f) room ≡ outcome r q u f room
+      → outcome (cutTo mostRuleBytes r) (cutTo (mostQuestionBytes sheetWidth) q) (cutTo (mostUnionBytes sheetWidth) u)
+      (cutTo (mostFactBytes sheetWidth) f) room ≡ outcome r q u f room
   cut-same r q u f =
       let q′ : List ℕ = cutTo (mostQuestionBytes sheetWidth) q in
       let u′ : List ℕ = cutTo (mostUnionBytes sheetWidth) u in
       let f′ : List ℕ = cutTo (mostFactBytes sheetWidth) f in
       one-cut mostRuleBytes r (λ s. outcome s q′ u′ f′ room)
       (λ l′ l. over-rules (cutTo mostRuleBytes r) q′ u′ f′ l′ ∙ sym (over-rules r q′ u′ f′ l))
-      ∙ one-cut (mostQuestionBytes sheetWidth) q (λ s. outcome r s u′ f′ room) (λ l′ l. over-question r q′ u′ f′ l′ ∙ sym (over-question r q u′ f′ l))
+      ∙ one-cut (mostQuestionBytes sheetWidth) q (λ s. outcome r s u′ f′ room) (λ l′ l. over-question r q′ u′ f′ l′
+      ∙ sym (over-question r q u′ f′ l))
       ∙ one-cut (mostUnionBytes sheetWidth) u (λ s. outcome r q s f′ room) (λ l′ l. over-union r q u′ f′ l′ ∙ sym (over-union r q u f′ l))
       ∙ one-cut (mostFactBytes sheetWidth) f (λ s. outcome r q u s room) (λ l′ l. over-facts r q u f′ l′ ∙ sym (over-facts r q u f l))

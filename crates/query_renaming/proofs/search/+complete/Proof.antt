@@ -6,7 +6,7 @@ use Rattle.query_renaming.proofs.SearchLaws.{laws, Seeks, past-unviable
 use Rattle.query_renaming.proofs.search.complete.Reads as complete
 use Rattle.query_renaming.proofs.search.complete.Kinds as complete-kinds
 use Rattle.query_renaming.proofs.search.+complete.Lts-complete as complete-lts
-use Rattle.query_renaming.proofs.partial.assign.Reads as assign-reads
+use Rattle.query_partial.proofs.assign.Reads as assign-reads
 use Rattle.query_renaming.proofs.search.offers.Reads as offers-reads
 use Rattle.query_renaming.proofs.search.viable.Reads as viable-reads
 use Rattle.query_renaming.proofs.search.+complete.{statement}
