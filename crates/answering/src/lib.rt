@@ -6,7 +6,7 @@ use check_sheet::check_members;
 use read_question::read_question;
 use read_records::partners::default_partners;
 use read_rules::read_rules;
-use read_union::member_place;
+use read_shown::member_place;
 use words::limits::MOST_RULES;
 ghost use mathlib.Core.Path.{_≡_};
 ghost use lib.ListN.{length};
@@ -88,7 +88,7 @@ pub fn member<'a>(sheet: &'a [u8], m: usize) -> &'a [u8]
     ensures { λ r. ⌜ now r ≡ thePart (now (sheet .entry)) m ⌝ }
 {
     let partners = default_partners();
-    read_union::member(sheet, m, &partners)
+    read_shown::member(sheet, m, &partners)
 }
 
 // Where a part of a sheet begins, and how many bytes it has.

@@ -1,14 +1,14 @@
 -- Refusal 11: the steps from a member, one by one.
 use mathlib.Core.Path.{_≡_, refl, sym, ap, ap₂, _∙_, subst}
-use Prim.Native.Nat.{ℕ, zero, suc, _+_, _-_, _≤_, _<_}
+use Prim.Native.Nat.{ℕ, _+_, _-_, _≤_, _<_}
 use native.Mathlib.Omega.{arith}
 use mathlib.Core.Bool.{Bool, true, false, not, _||_, or-false}
 use mathlib.Core.Option.{Option, none, some}
 use mathlib.Core.List.{List, [], _∷_, map, flatMap}
 use lib.ListN.{length, getD, set}
-use lib.Dec.{eqb}
+use lib.Dec.{T, eqb, eqb→eq}
 use borrow.Author.Needs.{needs}
-use borrow.Author.Tests.{le-ltb, eq-eqb, ne-eqb, eqb-true}
+use borrow.Author.Tests.{le-ltb, eq-eqb, ne-eqb}
 use Rattle.theory.specs.Lists.{Unrepeated, At, any, toList, numbers}
 use Rattle.theory.specs.Syntax.{Rule, Query, UCQ, mapAtom, subst-term}
 use Rattle.theory.specs.Rewriting.{changeAtom, substitute, ruleStep, mergeStep, steps}
@@ -16,7 +16,7 @@ use Rattle.theory.specs.Renaming.{alike}
 use Rattle.theory.specs.Union.{refuses11}
 use Rattle.theory.specs.Laws.Syntax.{keepOnce-unrepeated}
 use Rattle.theory.specs.Laws.Steps.{ruleStep-iff, mergeStep-iff}
-use Rattle.theory.specs.Laws.Lists.{any-append, any-map, any-flatMap}
+use Rattle.theory.specs.Laws.Lists.{any-append, any-map, any-flatMap, any-iff, numbers-iff}
 use Rattle.theory.specs.Laws.Scans.{someFrom, numberScans, skip, some-begins, some-later, some-found, NoneIn, none-yet, none-longer}
 use Rattle.theory.specs.Laws.Scans.{records-length}
 use Rattle.words.specs.Records.{ruleIn}
@@ -94,17 +94,6 @@ rule-passed rules count q i k union b within h l s g e f =
 
 -- ---- a rule that stands twice
 
-module _ (p : ℕ → Bool) where
-  -- one of so many numbers from i on passes
-  one-passes : (n d i : ℕ) → i + d ≡ n → any p (numbers i d) ≡ true → (j : ℕ) × (j < n) × (p j ≡ true)
-  unfolding any numbers
-  one-passes n zero i e f = absurd (let z : _≡_ {A = ℕ} 0 1 = cc in omega arith)
-  one-passes n (suc d) i e f = go (p i) refl (λ g. one-passes n d (suc i) (omega arith) g)
-    where
-      go : (b : Bool) → p i ≡ b → (any p (numbers (suc i) d) ≡ true → (j : ℕ) × (j < n) × (p j ≡ true)) → (j : ℕ) × (j < n) × (p j ≡ true)
-      go true g later = (i, omega arith, g)
-      go false g later = later (sym (ap (λ b. b || any p (numbers (suc i) d)) g) ∙ f)
-
 module _ (rules : List ℕ) (k : ℕ) where
   -- the word at j is that at k
   abbrev pub sameWord : ℕ → Bool
@@ -128,10 +117,10 @@ module _ (rules : List ℕ) (count : ℕ) (within : count ≤ length rules) wher
   pub no-second-try : (union : UCQ) (q : Query) (i k : ℕ) (b : Bool) → k < count → NoneIn (ruleOut union q (rulesIn rules count) i) 0 k
       → b ≡ any (sameWord rules k) (numbers 0 k) → b ≡ true → false ≡ ruleOut union q (rulesIn rules count) i k
   no-second-try union q i k b h before e f =
-      let w = one-passes (sameWord rules k) k k 0 (omega arith) (sym e ∙ f) in
-      let l = w .1 in
-      sym (sym (ap (leadsOutside union) (same-step q i (w .0) k (omega arith) h (eqb-true (getD rules (w .0) 0) (getD rules k 0) (w .2))))
-      ∙ before .each (w .0) (omega arith) l)
+      let (j, m, t) = any-iff (sameWord rules k) (numbers 0 k) .0 (subst T (sym (sym e ∙ f)) tt) in
+      let l = numbers-iff k j .0 m in
+      sym (sym (ap (leadsOutside union) (same-step q i j k (omega arith) h (eqb→eq (getD rules j 0) (getD rules k 0) t)))
+      ∙ before .each j (omega arith) l)
 
 -- ---- merges
 

@@ -3,7 +3,7 @@ use mathlib.Core.Path.{_≡_, sym, ap, _∙_, subst}
 use Prim.Native.Nat.{ℕ, zero, suc, _+_, _-_, _≤_, _<_}
 use native.Mathlib.Omega.{arith}
 use mathlib.Core.Bool.{Bool, _||_}
-use mathlib.Core.List.{List, _∷_, map}
+use mathlib.Core.List.{List}
 use lib.ListN.{length, getD, drop, set}
 use lib.Seq.{getD-set-same, getD-set-other}
 use borrow.Author.Count.{below-more}
@@ -13,11 +13,11 @@ use Rattle.theory.specs.Syntax.{Rule, Query}
 use Rattle.theory.specs.Renaming.{alike}
 use Rattle.theory.specs.Union.{refuses10}
 use Rattle.theory.specs.Laws.Lists.{any-map}
-use Rattle.theory.specs.Laws.Scans.{someFrom, numberScans, skip, rest-cons, some-next}
+use Rattle.theory.specs.Laws.Scans.{someFrom, numberScans, skip, some-next}
 use Rattle.words.specs.Words.{queryOf, unionIn}
 use Rattle.words.specs.declared.QueryWords.{QueryWords}
 use Rattle.words.specs.Rows.{Rows, memberIn}
-use Rattle.words.specs.Laws.Rows.{rows, union-from}
+use Rattle.words.specs.Laws.Rows.{rows, union-from, next-member}
 use Rattle.query_key.specs.Key.{key}
 use Rattle.query_key.specs.KeyLaws.{unlike-keys}
 use Rattle.check_distinct.specs.Keys.{Keys}
@@ -94,16 +94,11 @@ module _ (table : List ℕ) (n : ℕ) where
   abbrev pub twinAt : ℕ → Bool
   twinAt i = any (λ m. alike (memberIn table i .query) (m .query)) (drop (i + 1) (unionIn table n))
 
-  union-next : (i : ℕ) → i < n → drop i (unionIn table n) ≡ memberIn table i ∷ drop (i + 1) (unionIn table n)
-  union-next i h =
-      union-from table n i ∙ ap (map (memberIn table)) (rest-cons i n h)
-      ∙ ap (λ ms. memberIn table i ∷ ms) (sym (union-from table n (i + 1)))
-
   ten-from : (rules : List Rule) (q : Query) (k i : ℕ) → i + k ≡ n → refuses10 rules q (drop i (unionIn table n)) ≡ someFrom twinAt i n
   unfolding refuses10 any numbers
   ten-from rules q zero i e = ap (refuses10 rules q) (union-from table n i) ∙ (let d : n - i ≡ 0 = omega arith in rw d)
   ten-from rules q (suc k) i e =
-      ap (refuses10 rules q) (union-next i (omega arith)) ∙ ap (λ b. twinAt i || b) (ten-from rules q k (i + 1) (omega arith))
+      ap (refuses10 rules q) (next-member table n i (omega arith)) ∙ ap (λ b. twinAt i || b) (ten-from rules q k (i + 1) (omega arith))
       ∙ sym (some-next twinAt i n (omega arith))
 
   pub is-ten : (b : Bool) (rules : List Rule) (q : Query) → b ≡ someFrom twinAt 0 n → b ≡ refuses10 rules q (unionIn table n)

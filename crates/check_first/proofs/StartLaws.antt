@@ -1,9 +1,9 @@
 -- Refusal 7: two questions compared word by word, and the first member of a table.
 use mathlib.Core.Path.{_≡_, refl, sym, ap, _∙_}
-use Prim.Native.Nat.{ℕ, zero, suc, _*_, _≤_, _<_}
+use Prim.Native.Nat.{ℕ, zero, suc, _*_, _≤_}
 use native.Mathlib.Omega.{arith}
 use mathlib.Core.Bool.{Bool, true, false, not, _&&_, and-false}
-use mathlib.Core.List.{List, [], _∷_, map}
+use mathlib.Core.List.{List, _∷_, map}
 use lib.ListN.{length, getD, take, drop}
 use borrow.Author.Needs.{needs}
 use Rattle.theory.specs.Lists.{pairwise, numbers}
@@ -11,10 +11,10 @@ use Rattle.theory.specs.Syntax.{Rule, UCQ, sameTerm, sameAtom}
 use Rattle.theory.specs.Laws.Spellings.{sameTerm-exchanged, sameAtom-exchanged}
 use Rattle.theory.specs.Union.{sameQuery, zeroStep, refuses7}
 use Rattle.theory.specs.Laws.Scans.{allFrom, scans, all-pairs, unequal-records}
+use Rattle.words.specs.Laws.LowVariables.{word-below}
 use Rattle.words.specs.Records.{stepOf}
-use Rattle.words.specs.Words.{TermWords, queryOf, Small, memberOf, unionIn, wordTerm, wordAtom}
+use Rattle.words.specs.Words.{queryOf, Small, memberOf, unionIn, wordTerm, wordAtom}
 use Rattle.words.specs.declared.QueryWords.{QueryWords}
-use Rattle.words.specs.Limits.{wordTermBound}
 use Rattle.words.specs.Rows.{Row, Rows, memberIn}
 
 -- ---- two arrays side by side
@@ -31,9 +31,6 @@ module _ (n : ℕ) (a b : List ℕ) (r : Bool) where
   pub equal-atoms : n ≤ 8 → length a ≡ 8 → length b ≡ 8 → r ≡ allFrom (sameAt sameAtom wordAtom a b) 0 n
       → r ≡ pairwise sameAtom (map wordAtom (take n a)) (map wordAtom (take n b))
   equal-atoms h l m e = e ∙ all-pairs sameAtom wordAtom wordAtom a b n (omega arith) (omega arith)
-
-pub word-below : (words : List ℕ) (i : ℕ) → TermWords words → getD words i 0 < wordTermBound
-word-below words i h = h i
 
 -- ---- two questions
 

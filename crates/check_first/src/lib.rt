@@ -1,5 +1,7 @@
 // Refusal 7: member 0 is the question, with no step beside it.
 use words::QueryWords;
+use words::limits::MOST_ATOMS;
+use words::limits::MOST_TERMS;
 use words::rows::load;
 use words::same_atom;
 use words::same_term;
@@ -11,12 +13,13 @@ ghost use lib.ListN.{take};
 ghost use Rattle.theory.specs.Lists.{pairwise};
 ghost use Rattle.theory.specs.Syntax.{Rule, sameTerm, sameAtom};
 ghost use Rattle.theory.specs.Union.{sameQuery, refuses7 as refusesSeven};
+ghost use Rattle.words.specs.Limits.{mostTerms, mostAtoms};
 ghost use Rattle.words.specs.Words.{TermWords, queryOf, Small, unionIn, wordTerm, wordAtom};
 ghost use Rattle.words.specs.Rows.{Rows};
 
 // Whether the first n words of two arrays are the same terms.
-fn equal_terms(a: [u64; 4], b: [u64; 4], n: usize) -> bool
-    requires { ⌜ (n ≤ 4) × TermWords a × TermWords b ⌝ }
+fn equal_terms(a: [u64; MOST_TERMS], b: [u64; MOST_TERMS], n: usize) -> bool
+    requires { ⌜ (n ≤ mostTerms) × TermWords a × TermWords b ⌝ }
     ensures { λ r. ⌜ r ≡ pairwise sameTerm (map wordTerm (take n a)) (map wordTerm (take n b)) ⌝ }
 {
     let mut i: usize = 0;
@@ -31,8 +34,8 @@ fn equal_terms(a: [u64; 4], b: [u64; 4], n: usize) -> bool
 }
 
 // Whether the first n words of two arrays are the same atoms.
-fn equal_atoms(a: [u64; 8], b: [u64; 8], n: usize) -> bool
-    requires { ⌜ n ≤ 8 ⌝ }
+fn equal_atoms(a: [u64; MOST_ATOMS], b: [u64; MOST_ATOMS], n: usize) -> bool
+    requires { ⌜ n ≤ mostAtoms ⌝ }
     ensures { λ r. ⌜ r ≡ pairwise sameAtom (map wordAtom (take n a)) (map wordAtom (take n b)) ⌝ }
 {
     let mut i: usize = 0;

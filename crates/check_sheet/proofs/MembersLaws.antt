@@ -12,7 +12,7 @@ use Rattle.theory.specs.Lists.{_∈_, Unrepeated, pick}
 use Rattle.theory.specs.Syntax.{var, Rule, Query, Member, terms}
 use Rattle.theory.specs.Union.{check}
 use Rattle.theory.specs.Laws.Options.{is-false}
-use Rattle.theory.specs.Laws.Lists.{mem-along}
+use Rattle.theory.specs.Laws.Lists.{mem-along, mem-numbered}
 use Rattle.words.specs.Words.{memberOf, unionIn, stride, tableWords}
 use Rattle.words.specs.Limits.{sheetWidth, mostMembers}
 use Rattle.words.specs.Rows.{Rows, Row}
@@ -21,7 +21,6 @@ use Rattle.sheets.specs.Partners.{memberAsRead}
 use Rattle.sheets.specs.Refusals.{numberOf}
 use Rattle.sheets.specs.Reading.{unionAsRead}
 use Rattle.sheets.specs.Tests.{refuses6}
-use Rattle.sheets.specs.Laws.Tests.{mem-numbered}
 use Rattle.sheets.specs.Laws.QuestionRefusals.{refuses5-twice, not5-unrepeated, variables-in-range, query-arity}
 use Rattle.sheets.specs.Laws.UnionRefusals.{not6-iff}
 use Rattle.sheets.specs.Conditions.{memberQuestion}

@@ -16,6 +16,7 @@ use Rattle.theory.specs.Rewriting.{ruleStep, mergeStep}
 use Rattle.theory.specs.Renaming.{alike}
 use Rattle.theory.specs.Union.{yield, yieldsUnlike, anyFrom, refuses8, refuses9}
 use Rattle.theory.specs.Laws.Scans.{someFrom, numberScans}
+use Rattle.query_steps.proofs.StepLaws.{nothing-found}
 use Rattle.words.specs.Records.{ruleIn, stepKind, stepParent, stepAtom, stepOther, stepOf}
 use Rattle.words.specs.Words.{queryOf, Small, rulesIn, memberOf, unionIn}
 use Rattle.words.specs.declared.QueryWords.{QueryWords}
@@ -26,10 +27,6 @@ use Rattle.query_steps.specs.StepResults.{queryFound}
 use Rattle.check_steps.specs.Written.{stepFrom}
 
 -- ---- a question that was found, or not
-
-pub none-found : (q : QueryWords) → queryFound (record { found = false; query = q }) ≡ none
-unfolding queryFound
-none-found q = refl
 
 pub small-too : (p q : QueryWords) → p ≡ q → Small q → Small p
 small-too p q e s = subst Small (sym e) s
@@ -158,7 +155,7 @@ pub ruleset laws = (
   needs,
   numberScans,
   rows,
-  none-found,
+  nothing-found,
   small-too,
   yields,
   fails,

@@ -13,7 +13,7 @@ use borrow.Author.Needs.{needs}
 use borrow.Author.Tests.{eq-eqb, ne-eqb}
 use Rattle.theory.specs.Lists.{pick}
 use Rattle.theory.specs.Syntax.{Term, var, Atom, concept, role, sameTerm}
-use Rattle.words.specs.Laws.LowVariables.{concept-atom, role-atom, first-low, second-low, variable-word, object-high, object-term}
+use Rattle.words.specs.Laws.LowVariables.{concept-atom, role-atom, first-low, second-low, object-high, object-term, low-word}
 use Rattle.words.specs.Limits.{wordObjectBound, wordTermBound}
 use Rattle.words.specs.Words.{wordTerm, wordAtom, wordKind, wordName, wordFirst, wordSecond, LowTerm}
 use Rattle.query_key.specs.Key.{scramble, top, mix, mixAtom, given, givenBy, colourBy}
@@ -43,9 +43,6 @@ unfolding mix
 mix-made code x y r e = e
 
 -- ---- the term of a word
-
-low-word : (t : ℕ) → t < 32 → wordTerm t ≡ var t
-low-word t h = variable-word t (omega arith)
 
 pub variable-colour : (l : List ℕ) (t : ℕ) → t < 32 → getD l t 0 ≡ colourBy (colourIn l) (wordTerm t)
 variable-colour l t h = sym (ap (colourBy (colourIn l)) (low-word t h))

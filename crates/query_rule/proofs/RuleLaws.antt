@@ -13,6 +13,7 @@ use Rattle.theory.specs.Syntax.{Term, var, concept, role, named, has, hasInvers
 use Rattle.theory.specs.Syntax.{instance, oriented}
 use Rattle.theory.specs.Rewriting.{unbound, fresh, bearer, rewriteAtom}
 use Rattle.theory.specs.Laws.Spellings.{exchanged, differ-exchanged}
+use Rattle.theory.specs.Laws.Options.{and-both}
 use Rattle.words.specs.Records.{ruleKind, leftForm, leftName, rightForm, rightName, basicOf, ruleIn, atomOf}
 use Rattle.words.specs.Words.{queryOf, Small, wordTerm, wordAtom, wordKind, wordName, wordFirst, wordSecond, LowAtom, firstOf, secondOf}
 use Rattle.words.specs.declared.QueryWords.{QueryWords}
@@ -124,11 +125,7 @@ module _ (x a : ℕ) where
 
   module _ (h : names (ruleIn x) (wordAtom a) ≡ true) where
     tests : (eqb (rightName x) (wordName a) ≡ true) × (eqb (rightKind (ruleKind x) (rightForm x)) (wordKind a) ≡ true)
-    tests = both (eqb (rightName x) (wordName a)) (eqb (rightKind (ruleKind x) (rightForm x)) (wordKind a)) (sym names-words ∙ h)
-      where
-        both : (b c : Bool) → (b && c) ≡ true → (b ≡ true) × (c ≡ true)
-        both true c e = (refl, e)
-        both false c e = absurd (let z : _≡_ {A = ℕ} 0 1 = cc in omega arith)
+    tests = and-both (eqb (rightName x) (wordName a)) (eqb (rightKind (ruleKind x) (rightForm x)) (wordKind a)) (sym names-words ∙ h)
 
     same-kind : rightKind (ruleKind x) (rightForm x) ≡ wordKind a
     same-kind = eqb-true (rightKind (ruleKind x) (rightForm x)) (wordKind a) (tests .1)

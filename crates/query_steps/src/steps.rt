@@ -3,6 +3,8 @@ use query_rule::rewrite_atom;
 use query_substitution::Substitution;
 use query_substitution::unify;
 use words::QueryWords;
+use words::limits::MOST_ATOMS;
+use words::limits::MOST_TERMS;
 use words::same_atom;
 ghost use mathlib.Core.Path.{_≡_};
 ghost use mathlib.Core.List.{List, map};
@@ -12,6 +14,7 @@ ghost use lib.ListN.{take};
 ghost use Rattle.theory.specs.Lists.{At, any};
 ghost use Rattle.theory.specs.Syntax.{Rule, mapAtom, subst-term, sameAtom};
 ghost use Rattle.theory.specs.Rewriting.{substitute as substituted, changeAtom, ruleStep, mergeStep};
+ghost use Rattle.words.specs.Limits.{mostAtoms};
 ghost use Rattle.words.specs.Records.{ruleIn};
 ghost use Rattle.words.specs.Words.{TermWords, queryOf, Small, wordTerm, wordAtom, LowAtom};
 ghost use Rattle.query_substitution.specs.Substitutions.{SmallTargets, substOf};
@@ -25,7 +28,7 @@ pub struct QueryFound {
 
 // Whether the query has the atom.
 fn has_atom(q: QueryWords, a: u64) -> bool
-    requires { ⌜ q .size ≤ 8 ⌝ }
+    requires { ⌜ q .size ≤ mostAtoms ⌝ }
     ensures { λ r. ⌜ r ≡ any (sameAtom (wordAtom a)) (queryOf q .atoms) ⌝ }
 {
     let atoms = q.atoms;
@@ -42,7 +45,7 @@ fn has_atom(q: QueryWords, a: u64) -> bool
 
 // The query with one atom more, unless it stands there already.
 fn with_atom(mut q: QueryWords, a: u64) -> QueryWords
-    requires { ⌜ q .size < 8 ⌝ }
+    requires { ⌜ q .size < mostAtoms ⌝ }
     ensures { λ r. ⌜ (queryOf r ≡ withAtom (queryOf q) (wordAtom a)) × (r .size ≤ q .size + 1)
         × (r .terms ≡ q .terms) × (r .answers ≡ q .answers) ⌝ }
 {
@@ -82,13 +85,13 @@ fn change_atom(mut q: QueryWords, i: usize, b: u64) -> QueryWords
 }
 
 // The words of the query's answer terms under the replacement.
-fn apply_answers(s: Substitution, q: QueryWords) -> [u64; 4]
+fn apply_answers(s: Substitution, q: QueryWords) -> [u64; MOST_TERMS]
     requires { ⌜ SmallTargets s × Small q ⌝ }
     ensures { λ r. ⌜ (map wordTerm (take (q .terms) r) ≡ map (subst-term (substOf s)) (queryOf q .answers)) × TermWords r ⌝ }
 {
     let answers = q.answers;
     let n = q.terms;
-    let mut words = [0u64; 4];
+    let mut words = [0u64; MOST_TERMS];
     let mut i: usize = 0;
     while i < n {
         let t = answers[i];
@@ -100,13 +103,13 @@ fn apply_answers(s: Substitution, q: QueryWords) -> [u64; 4]
 }
 
 // The words of the query's atoms under the replacement.
-fn apply_atoms(s: Substitution, q: QueryWords) -> [u64; 8]
+fn apply_atoms(s: Substitution, q: QueryWords) -> [u64; MOST_ATOMS]
     requires { ⌜ SmallTargets s × Small q ⌝ }
     ensures { λ r. ⌜ map wordAtom (take (q .size) r) ≡ map (mapAtom (subst-term (substOf s))) (queryOf q .atoms) ⌝ }
 {
     let atoms = q.atoms;
     let n = q.size;
-    let mut words = [0u64; 8];
+    let mut words = [0u64; MOST_ATOMS];
     let mut i: usize = 0;
     while i < n {
         words[i] = s.apply_atom(atoms[i]);

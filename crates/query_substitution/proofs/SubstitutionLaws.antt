@@ -19,15 +19,12 @@ use Rattle.theory.specs.Rewriting.{replace, after, join, bind, unify}
 use Rattle.theory.specs.Laws.Options.{same-test, three-ways, T-and, T-eqb, is-true}
 use Rattle.words.specs.Limits.{wordObjectBound, wordTermBound}
 use Rattle.words.specs.Words.{wordTerm, wordAtom, wordKind, wordName, wordFirst, wordSecond, LowAtom, firstOf}
-use Rattle.words.specs.Laws.LowVariables.{concept-atom, role-atom, first-low, second-low}
-use Rattle.words.specs.Laws.LowVariables.{variable-word, object-high, object-term}
+use Rattle.words.specs.Laws.LowVariables.{concept-atom, role-atom, first-low, second-low, low-word}
+use Rattle.words.specs.Laws.LowVariables.{object-high, object-term}
 use Rattle.query_substitution.specs.Substitutions.{SmallTerm, SmallTargets, substOf, unifierOf}
 use Rattle.query_substitution.specs.declared.Substitution.{Substitution}
 
 -- ---- words of terms: variables are below 32, objects are not
-
-low-word : (w : ℕ) → w < 32 → wordTerm w ≡ var w
-low-word w h = variable-word w (omega arith)
 
 pub small-variable : (w : ℕ) → w < 32 → SmallTerm w
 small-variable w h = record {

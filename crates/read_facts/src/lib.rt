@@ -1,11 +1,11 @@
 // Facts: which records are sound, a fact as read in a word, and a sheet's facts read into a table.
+use read_fields::bytes::six;
+use read_fields::fields::fact_first;
+use read_fields::fields::fact_kind;
+use read_fields::fields::fact_name;
+use read_fields::fields::fact_second;
+use read_fields::fields::fact_zeros;
 use read_records::SheetRead;
-use read_records::bytes::six;
-use read_records::fields::fact_first;
-use read_records::fields::fact_kind;
-use read_records::fields::fact_name;
-use read_records::fields::fact_second;
-use read_records::fields::fact_zeros;
 use read_records::partners::is_higher;
 use read_records::partners::lower;
 use read_records::refused;

@@ -15,11 +15,12 @@ use Rattle.theory.specs.Laws.Lists.{any-map}
 use Rattle.theory.specs.Laws.Spellings.{sameAtom-exchanged}
 use Rattle.theory.specs.Laws.Scans.{someFrom, allFrom, testAt, scans, rest-cons, rest-nil, all-left, some-next, some-past}
 use Rattle.theory.specs.Laws.Scans.{records-listed, some-record, all-records}
+use Rattle.words.specs.Laws.LowVariables.{word-below}
 use Rattle.words.specs.Records.{termOf}
-use Rattle.words.specs.Words.{queryOf, TermWords, wordTerm, wordAtom}
+use Rattle.words.specs.Words.{queryOf, wordTerm, wordAtom}
 use Rattle.words.specs.Laws.Scans.{any-places}
 use Rattle.words.specs.declared.QueryWords.{QueryWords}
-use Rattle.words.specs.Limits.{sheetWidth, wordObjectBound, wordTermBound}
+use Rattle.words.specs.Limits.{sheetWidth, wordObjectBound}
 use Rattle.sheets.specs.Format.{questionLength}
 use Rattle.sheets.specs.Refusals.{numberOf, questionRefusals}
 use Rattle.sheets.specs.Reading.{questionAsRead}
@@ -47,9 +48,6 @@ module _ (atoms : List (Atom Term)) (t : ℕ) (v : Bool) (e : v ≡ eqb (t / wor
   pub object-covered : v ≡ false → true ≡ covered atoms (wordTerm t)
   unfolding covered termOf
   object-covered is = rw (← e, is)
-
-pub word-below : (words : List ℕ) (i : ℕ) → TermWords words → getD words i 0 < wordTermBound
-word-below words i h = h i
 
 -- whether the answer term at place k is covered
 abbrev pub coveredAt : List ℕ → List ℕ → ℕ → ℕ → Bool

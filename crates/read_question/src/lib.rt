@@ -1,7 +1,7 @@
 // A question read into a struct, with its refusals.
-use read_records::bytes::six;
-use read_records::bytes::three;
-use read_records::bytes::wide;
+use read_fields::bytes::six;
+use read_fields::bytes::three;
+use read_fields::bytes::wide;
 use read_records::terms::answer_sound;
 use read_records::terms::atom_sound;
 use read_records::terms::atom_word;

@@ -1,23 +1,17 @@
 -- What the code finds in the table of partners is what the definitions say.
 use mathlib.Core.Path.{_≡_, refl, sym, ap, _∙_, subst}
-use Prim.Native.Nat.{ℕ, zero, suc, _<_, _≤_}
-use native.Mathlib.Nat.{le-of-suc-le-suc, not-suc-le-zero}
+use Prim.Native.Nat.{ℕ, _<_, _≤_}
 use mathlib.Core.List.{List, [], _∷_}
 use lib.Dec.{ltb}
 use lib.ListN.{length, getD, List·getD-eq-default}
 use borrow.Author.Needs.{needs}
 use borrow.Author.Tests.{lt-ltb, le-ltb}
+use Rattle.theory.specs.Laws.Lists.{getD-within}
 use Rattle.theory.specs.Lists.{pick}
 use Rattle.sheets.specs.Partners.{isHigher, lower, partners01}
 
--- an element within the list, whatever stands for one that is not
-any-default : (p : List ℕ) (i d e : ℕ) → i < length p → getD p i d ≡ getD p i e
-any-default [] i d e h = absurd (not-suc-le-zero h)
-any-default (x ∷ p) zero d e h = refl
-any-default (x ∷ p) (suc i) d e h = any-default p i d e (le-of-suc-le-suc h)
-
 pub partner-within : (p : List ℕ) (role x : ℕ) → role < length p → x ≡ getD p role 0 → x ≡ getD p role role
-partner-within p role x h e = e ∙ any-default p role 0 role h
+partner-within p role x h e = e ∙ getD-within p role 0 role h
 
 pub partner-none : (p : List ℕ) (role : ℕ) → length p ≤ role → role ≡ getD p role role
 partner-none p role h = sym (List·getD-eq-default p role h)

@@ -1,6 +1,4 @@
-// What the readers of the four sheets share: what reading gives, numbers in bytes, fields, reciprocal names, terms and atoms.
-pub mod bytes;
-pub mod fields;
+// What the readers of the four sheets share: what reading gives, reciprocal names, terms and atoms.
 pub mod partners;
 pub mod terms;
 

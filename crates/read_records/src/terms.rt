@@ -1,13 +1,13 @@
 // Terms and atoms of a sheet: which are sound, and their words as read.
-use crate::fields::atom_first;
-use crate::fields::atom_kind;
-use crate::fields::atom_name;
-use crate::fields::atom_second;
-use crate::fields::atom_zero;
-use crate::fields::term_kind;
-use crate::fields::term_number;
 use crate::partners::is_higher;
 use crate::partners::lower;
+use read_fields::fields::atom_first;
+use read_fields::fields::atom_kind;
+use read_fields::fields::atom_name;
+use read_fields::fields::atom_second;
+use read_fields::fields::atom_zero;
+use read_fields::fields::term_kind;
+use read_fields::fields::term_number;
 use words::concept_word;
 use words::limits::SHEET_TERM_BOUND;
 use words::limits::VARIABLE_BOUND;

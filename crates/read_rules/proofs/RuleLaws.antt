@@ -1,5 +1,5 @@
 -- Which records are rules, and what a rule's parts as read make of it.
-use mathlib.Core.Path.{_≡_, refl, sym, ap, _∙_, subst}
+use mathlib.Core.Path.{_≡_, refl, sym, ap, _∙_}
 use mathlib.Core.Logic.{_⊎_, inl, inr}
 use Prim.Native.Nat.{ℕ, zero, suc, _+_, _-_, _*_, _/_, _%_, _<_, _≤_}
 use native.Mathlib.Omega.{arith}
@@ -9,7 +9,8 @@ use lib.Dec.{eqb, ltb}
 use borrow.Author.Needs.{needs}
 use borrow.Author.Tests.{lt-ltb, le-ltb, eq-eqb, ne-eqb, ltb-true}
 use Rattle.theory.specs.Lists.{pick}
-use Rattle.theory.specs.Syntax.{has, hasInverse, conceptInclusion, roleInclusion}
+use Rattle.theory.specs.Syntax.{conceptInclusion, roleInclusion}
+use Rattle.theory.specs.Laws.Options.{and-both}
 use Rattle.words.specs.Records.{ruleKind, leftForm, leftName, rightForm, rightName, isRule, basicOf, ruleIn}
 use Rattle.words.specs.Limits.{nameBound}
 use Rattle.sheets.specs.Partners.{isHigher, lower, basicAsRead, ruleAsRead}
@@ -133,10 +134,6 @@ flip-twice f g k h i a b p q d e = q ∙ ap (λ z. xor z i) p ∙ xor-assoc (eqb
 pub ruleset readLaws = (needs, name-as-read, turned-as-read, kept-as-read, flip-on, flip-off, flip-twice)
 
 -- ---- a rule as read
-
-and-both : (a b : Bool) → (a && b) ≡ true → (a ≡ true) × (b ≡ true)
-and-both true b e = (refl, e)
-and-both false b e = absurd (let z : _≡_ {A = ℕ} 0 1 = cc in omega arith)
 
 module _ (x : ℕ) (rule : isRule x ≡ true) where
   concept-forms : ruleKind x ≡ 1 → (leftForm x < 3) × (rightForm x < 3)

@@ -1,6 +1,6 @@
 // Rules: which records are rules, a rule as read, and a sheet's rules read into a table.
+use read_fields::bytes::four;
 use read_records::SheetRead;
-use read_records::bytes::four;
 use read_records::partners::is_higher;
 use read_records::partners::lower;
 use read_records::refused;

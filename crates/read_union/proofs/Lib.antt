@@ -1,3 +1,1 @@
-pub mod UnionLaws
 pub mod RowLaws
-pub mod MemberLaws

@@ -16,6 +16,7 @@ use mir.Val.{Fits}
 use Rattle.theory.specs.Lists.{pick, numbers}
 use Rattle.theory.specs.Syntax.{Member}
 use Rattle.theory.specs.Laws.Options.{is-true}
+use Rattle.theory.specs.Laws.Lists.{numbered-length}
 use Rattle.words.specs.Records.{stepOf}
 use Rattle.words.specs.Words.{TermWords, queryOf, memberOf, unionIn, stride, tableWords}
 use Rattle.words.specs.declared.QueryWords.{QueryWords}
@@ -23,15 +24,15 @@ use Rattle.words.specs.Limits.{sheetWidth, wordTermBound, mostTerms, mostAtoms,
 use Rattle.sheets.specs.Bits.{numberAt}
 use Rattle.sheets.specs.Format.{queryAt, memberCount, memberStart, questionStart, memberAt, unionOf}
 use Rattle.sheets.specs.Laws.QuestionRefusals.{questionSound-tells}
-use Rattle.sheets.specs.Laws.UnionRefusals.{start-rises}
-use Rattle.sheets.specs.Laws.Tests.{records-length}
 use Rattle.sheets.specs.Partners.{queryAsRead, memberAsRead}
 use Rattle.sheets.specs.Reading.{unionAsRead}
 use Rattle.sheets.specs.Tests.{questionSound, refuses6}
 use Rattle.read_records.specs.ReadIntoLaws.{sheet-refused, sheet-read}
 use Rattle.read_question.specs.QuestionWords.{ReadFrom}
-use Rattle.read_union.specs.Members.{memberEnd, Readable, RowOf, NarrowRow, NarrowRows, UnionRead}
-use Rattle.sheets.specs.Laws.UnionLengths.{first-begins, next-start, accepted, at-least, at-most}
+use Rattle.read_walk.specs.Ends.{memberEnd}
+use Rattle.read_walk.specs.EndLaws.{end-begins, end-within, start-within}
+use Rattle.read_union.specs.Members.{Readable, RowOf, NarrowRow, NarrowRows, UnionRead}
+use Rattle.sheets.specs.Laws.UnionLengths.{first-begins, accepted, at-least, at-most}
 
 -- ---- the words of a row
 
@@ -197,34 +198,21 @@ rows-narrow p s table j count below k = record { each = λ i h. all-of (drop (st
 -- ---- the loop that reads members
 
 module _ (s : List ℕ) (at j count : ℕ) (begins : at ≡ memberStart sheetWidth s j) where
-  pub end-begins : (end : ℕ) → end ≡ memberEnd s at → end ≡ memberStart sheetWidth s (j + 1)
-  end-begins end e = rw (add-one j) (e ∙ ap (λ a. memberEnd s a) begins ∙ next-start s j)
-
-  -- member j stands within the sheet
-  module _ (h : j < count) (fits : memberStart sheetWidth s count ≤ length s) where
-    pub end-within : memberEnd s at ≤ length s
-    end-within =
-        let e : memberEnd s at ≡ memberStart sheetWidth s (suc j) = ap (λ a. memberEnd s a) begins ∙ next-start s j in
-        omega (arith, start-rises sheetWidth s (suc j) count h)
-
-    pub start-within : at ≤ length s
-    start-within = let e : memberEnd s at ≤ length s = end-within in omega arith
-
   module _ (h : j < count) (r : Readable s count) where
     pub question-there : questionSound sheetWidth s (at + stepBytes) ≡ true
     question-there = rw begins (r .each j h)
 
     pub question-within : memberEnd s at ≤ length s
-    question-within = end-within h (r .within)
+    question-within = end-within s at j count begins h (r .within)
 
     pub step-within : at + stepBytes ≤ length s
-    step-within = let e : memberEnd s at ≤ length s = end-within h (r .within) in omega arith
+    step-within = let e : memberEnd s at ≤ length s = end-within s at j count begins h (r .within) in omega arith
 
     pub step-fits : length s ≤ mostUnionBytes sheetWidth → Fits w64 (at + stepBytes)
-    step-fits l = let e : memberEnd s at ≤ length s = end-within h (r .within) in omega arith
+    step-fits l = let e : memberEnd s at ≤ length s = end-within s at j count begins h (r .within) in omega arith
 
     pub begins-within : at ≤ length s
-    begins-within = start-within h (r .within)
+    begins-within = start-within s at j count begins h (r .within)
 
 -- ---- a union that is read
 
@@ -232,7 +220,7 @@ union-length : (p s : List ℕ) → memberCount s ≡ length (unionAsRead p shee
 unfolding unionAsRead unionOf
 union-length p s =
     sym (length-map (map (memberAt sheetWidth s) (numbers 0 (memberCount s))) (memberAsRead p)
-    ∙ records-length (memberAt sheetWidth s) (memberCount s))
+    ∙ numbered-length (memberAt sheetWidth s) (memberCount s))
 
 module _ (p s : List ℕ) (arity : ℕ) (r : Bool) (e : r ≡ not (refuses6 p sheetWidth arity s)) where
   -- a refusal's own table is not said

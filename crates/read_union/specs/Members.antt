@@ -4,7 +4,7 @@ use Prim.Native.Nat.{ℕ, _+_, _*_, _≤_, _<_}
 use mathlib.Core.Bool.{Bool, true, _&&_}
 use mathlib.Core.List.{List, _++_}
 use lib.Dec.{leb}
-use lib.ListN.{length, getD, take, drop}
+use lib.ListN.{length, getD, drop}
 use Rattle.theory.specs.Lists.{pick}
 use Rattle.theory.specs.Syntax.{Member}
 use Rattle.words.specs.Limits.{sheetWidth, wordTermBound, mostTerms, mostAtoms, mostMembers, stepBytes}
@@ -37,18 +37,6 @@ pub record UnionRead (partners s : List ℕ) (arity : ℕ) (table : List ℕ) (n
   pub narrow : NarrowRows table count
 
 -- ---- between the reader's functions
-
--- the end of the member that begins at byte `at`
-abbrev pub memberEnd : List ℕ → ℕ → ℕ
-memberEnd s at = at + stepBytes + questionLength sheetWidth s (at + stepBytes)
-
--- that member ends within the sheet and is sound
-abbrev pub wholeAndSound : List ℕ → ℕ → List ℕ → ℕ → Bool
-wholeAndSound partners arity s at = leb (memberEnd s at) (length s) && memberSoundAt partners sheetWidth arity s (at + stepBytes)
-
--- its end, if it is whole and sound, and else 0
-abbrev pub endIfSound : List ℕ → ℕ → List ℕ → ℕ → ℕ
-endIfSound partners arity s at = pick (wholeAndSound partners arity s at) (memberEnd s at) 0
 
 -- the first n members stand within the sheet, and each has a sound question
 pub record Readable (s : List ℕ) (n : ℕ) : Type 0 where

@@ -11,7 +11,7 @@ use lib.ListN.{length, take, drop, getD, set, length-append, length-set, length-
 use lib.Seq.{take-suc-set, take-length, take-all, length-take-le, take-at}
 use borrow.Rule.Slice.PartMut.{midOf, postOf, putMid}
 use borrow.Author.Needs.{needs}
-use borrow.Author.Tests.{eq-eqb, ne-eqb}
+use borrow.Author.Tests.{ne-eqb}
 use mir.Syntax.{w64}
 use mir.Val.{Fits}
 use Rattle.words.specs.Limits.{objectBound}

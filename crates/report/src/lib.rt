@@ -1,6 +1,6 @@
 // The text of an outcome, as the program prints it (01, "The program and its cards").
 use io::decimal;
-use read_records::bytes::wide;
+use read_fields::bytes::wide;
 ghost use mathlib.Core.Path.{_≡_};
 ghost use Prim.Native.Nat.{_+_, _*_, _≤_, _<_};
 ghost use mathlib.Core.Bool.{cond};

@@ -1,12 +1,12 @@
 // The program: reads the four sheets from the folder that it is run in, and prints the answers (01, "The program and its cards").
 use libc::STDOUT_FILENO;
-use program::files::read_files;
-use program::text::put_files;
+use program_files::read_files;
+use program_text::put_files;
 use words::limits::MOST_FACT_BYTES;
 use words::limits::MOST_QUESTION_BYTES;
 use words::limits::MOST_RULE_BYTES;
 use words::limits::MOST_UNION_BYTES;
-ghost use Rattle.program.specs.Files.{Printable};
+ghost use Rattle.program_files.specs.Files.{Printable};
 
 // A buffer for each file has one byte more than the file's limit: a longer file fills it, and is refused for its length.
 const RULES: usize = MOST_RULE_BYTES + 1;

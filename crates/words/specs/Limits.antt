@@ -87,6 +87,10 @@ recordBytes w = (2 * w + 16) / 8
 abbrev pub objectBytes : ℕ
 objectBytes = sheetWidth / 8
 
+-- and the longest tuple there
+abbrev pub mostTupleBytes : ℕ
+mostTupleBytes = objectBytes * mostTerms
+
 -- ---- the longest sheets: "2,048, 61, 33,282 and 60,000 bytes in that order"
 
 abbrev pub mostRuleBytes : ℕ

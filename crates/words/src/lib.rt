@@ -5,6 +5,8 @@ pub mod rows;
 pub mod rules;
 pub mod steps;
 
+use limits::MOST_ATOMS;
+use limits::MOST_TERMS;
 ghost use mathlib.Core.Path.{_≡_};
 ghost use mathlib.Core.Bool.{true, _&&_};
 ghost use Prim.Native.Nat.{_/_, _%_, _<_};
@@ -17,9 +19,9 @@ ghost use Rattle.words.specs.Words.{wordTerm, wordAtom, wordKind, wordNa
 // A query: its answer terms, of 25 bits each, and its atoms, of 64.
 pub struct QueryWords {
     pub terms: usize,
-    pub answers: [u64; 4],
+    pub answers: [u64; MOST_TERMS],
     pub size: usize,
-    pub atoms: [u64; 8],
+    pub atoms: [u64; MOST_ATOMS],
 }
 
 // The word of a concept atom: nothing stands in its second place.

@@ -1,6 +1,8 @@
 // Members in a table, a row of 16 words each.
 use crate::QueryWords;
 use crate::limits::MEMBER_WORDS;
+use crate::limits::MOST_ATOMS;
+use crate::limits::MOST_TERMS;
 ghost use mathlib.Core.Path.{_≡_};
 ghost use Prim.Native.Nat.{_+_, _*_, _≤_};
 ghost use lib.ListN.{length, take, drop};
@@ -8,7 +10,7 @@ ghost use Rattle.words.specs.Words.{queryOf, Small, stride};
 ghost use Rattle.words.specs.Rows.{Row, rowAt, memberIn};
 
 // Four words of the table.
-fn four_from(table: &[u64], at: usize) -> [u64; 4]
+fn four_from(table: &[u64], at: usize) -> [u64; MOST_TERMS]
     requires { ⌜ at + 4 ≤ length (now table) ⌝ }
     ensures { λ r. ⌜ r ≡ take 4 (drop at (now (table .entry))) ⌝ }
 {
@@ -16,7 +18,7 @@ fn four_from(table: &[u64], at: usize) -> [u64; 4]
 }
 
 // Eight words of the table.
-fn eight_from(table: &[u64], at: usize) -> [u64; 8]
+fn eight_from(table: &[u64], at: usize) -> [u64; MOST_ATOMS]
     requires { ⌜ at + 8 ≤ length (now table) ⌝ }
     ensures { λ r. ⌜ r ≡ take 8 (drop at (now (table .entry))) ⌝ }
 {

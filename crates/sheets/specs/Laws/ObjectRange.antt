@@ -8,12 +8,12 @@ use mathlib.Core.List.{List, List·Memᴰ·cases-cons, List·Memᴰ·not-nil, Me
 use lib.Dec.{eqb}
 use Rattle.theory.specs.Lists.{_∈_, pick}
 use Rattle.theory.specs.Syntax.{var, const, concept, role, Member, Fact, args}
+use Rattle.theory.specs.Laws.Lists.{mem-numbered}
 use Rattle.words.specs.Records.{field, termOf, factOf}
 use Rattle.words.specs.Limits.{sheetWidth, objectBound}
 use Rattle.sheets.specs.Format.{factRecords, factsOf, answerRecords, queryAt, memberCount, memberAt, unionOf}
 use Rattle.sheets.specs.Partners.{atomAsRead, queryAsRead, memberAsRead}
 use Rattle.sheets.specs.Reading.{factsAsRead, unionAsRead}
-use Rattle.sheets.specs.Laws.Tests.{mem-numbered}
 use Rattle.sheets.specs.Laws.PartnerLaws.{args-asRead}
 
 -- ---- facts

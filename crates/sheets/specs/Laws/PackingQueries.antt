@@ -10,6 +10,7 @@ use lib.Dec.{T}
 use lib.ListN.{length, getD, length-append, length-map}
 use Rattle.theory.specs.Lists.{all}
 use Rattle.theory.specs.Syntax.{Query}
+use Rattle.theory.specs.Laws.Lists.{numbered-length}
 use Rattle.words.specs.Limits.{answerBytes, recordBytes}
 use Rattle.words.specs.Records.{termOf, atomOf}
 use Rattle.sheets.specs.Bits.{numberAt}
@@ -17,7 +18,7 @@ use Rattle.sheets.specs.Format.{termCount, atomCount, questionLength, an
 use Rattle.sheets.specs.Tests.{termSound, answerSound, atomSound, questionSound, refuses3}
 use Rattle.sheets.specs.Packing.{bytesOf, fieldsNumber, termNumber, atomNumber, packQuery, All, IsByte, TermInRange, AtomInRange}
 use Rattle.sheets.specs.Packing.{QueryInRange, WholeBytes}
-use Rattle.sheets.specs.Laws.Tests.{itself, not-tells, and-tells, or-tells, eqb-tells, leb-tells, ltb-tells, records-length}
+use Rattle.sheets.specs.Laws.Tests.{itself, not-tells, and-tells, or-tells, eqb-tells, leb-tells, ltb-tells}
 use Rattle.sheets.specs.Laws.PackingBytes.{Stands, stands-whole, stands-all, stands-first, stands-second, stands-append, stands-byte}
 use Rattle.sheets.specs.Laws.PackingBytes.{byte-stands, number-then, number-append, length-number, EvenPlaces, all-at}
 use Rattle.sheets.specs.Laws.PackingNumbers.{Code, term-code, atom-code}
@@ -126,13 +127,13 @@ module _ (w : ℕ) (whole : WholeBytes w) where
   pub answers-count : (s : List ℕ) (at : ℕ) → length (queryAt w s at .answers) ≡ termCount s at
   unfolding queryAt
   answers-count s at =
-      length-map (answerRecords w s at) (termOf w) ∙ records-length (λ i. numberAt s (answerPlace at i) (answerBytes w)) (termCount s at)
+      length-map (answerRecords w s at) (termOf w) ∙ numbered-length (λ i. numberAt s (answerPlace at i) (answerBytes w)) (termCount s at)
 
   atoms-count : (s : List ℕ) (at : ℕ) → length (queryAt w s at .atoms) ≡ atomCount s at
   unfolding queryAt
   atoms-count s at =
       length-map (atomRecords w s at) (atomOf w)
-      ∙ records-length (λ i. numberAt s (atomPlace at (termCount s at) i) (recordBytes w)) (atomCount s at)
+      ∙ numbered-length (λ i. numberAt s (atomPlace at (termCount s at) i) (recordBytes w)) (atomCount s at)
 
   pub length-again : (s : List ℕ) (at : ℕ) → length (packQuery w (queryAt w s at)) ≡ questionLength w s at
   length-again s at =

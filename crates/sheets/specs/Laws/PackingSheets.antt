@@ -13,7 +13,7 @@ use lib.ListN.{length, length-map}
 use Rattle.theory.specs.Lists.{all, numbers}
 use Rattle.theory.specs.Syntax.{Rule, Fact}
 use Rattle.theory.specs.Laws.Options.{T-no}
-use Rattle.theory.specs.Laws.Lists.{all-iff, map-after}
+use Rattle.theory.specs.Laws.Lists.{all-iff, map-after, numbered-length}
 use Rattle.words.specs.Limits.{sheetWidth, wordWidth, mostRules, mostFacts, ruleBytes, answerBytes, recordBytes}
 use Rattle.words.specs.Records.{isRule, ruleIn, factOf}
 use Rattle.sheets.specs.Bits.{numberAt}
@@ -21,7 +21,7 @@ use Rattle.sheets.specs.Format.{recordsFrom, ruleRecords, rulesOf, facts
 use Rattle.sheets.specs.Tests.{refuses1, refuses2, refuses12, factSound, refuses13}
 use Rattle.sheets.specs.Packing.{packRecords, packRules, factNumber, packFacts, All, IsByte, RuleInRange, RulesInRange, FactInRange}
 use Rattle.sheets.specs.Packing.{FactsInRange, WholeBytes}
-use Rattle.sheets.specs.Laws.Tests.{Tells, itself, not-tells, or-tells, eqb-tells, ltb-tells, records-length}
+use Rattle.sheets.specs.Laws.Tests.{Tells, itself, not-tells, or-tells, eqb-tells, ltb-tells}
 use Rattle.sheets.specs.Laws.RuleRefusals.{rules-all}
 use Rattle.sheets.specs.Laws.PackingBytes.{Stands, stands-whole, stands-all, number-below, length-records, recordsAt, EvenPlaces}
 use Rattle.sheets.specs.Laws.PackingBytes.{records-read, records-stand}
@@ -89,7 +89,7 @@ module _ {X : Type 0} {of : ℕ → X} {number : X → ℕ} {sound : ℕ → Boo
   whole-row i = ap (λ j. 0 + size * j) (zero-add i)
 
   values-count : (s : List ℕ) → length (values s) ≡ length s / size
-  values-count s = length-map (records s) of ∙ records-length (λ i. numberAt s (0 + size * i) size) (length s / size)
+  values-count s = length-map (records s) of ∙ numbered-length (λ i. numberAt s (0 + size * i) size) (length s / size)
 
   sheet-read : 0 < size → (vs : List X) → All InRange vs → (values (pack vs) ≡ vs) × T (all sound (records (pack vs)))
   sheet-read pos vs h =

@@ -12,7 +12,7 @@ use lib.ListN.{length, length-append}
 use Rattle.theory.specs.Lists.{_∈_, all, numbers}
 use Rattle.theory.specs.Syntax.{Query, Member, UCQ}
 use Rattle.theory.specs.Laws.Options.{T-and}
-use Rattle.theory.specs.Laws.Lists.{all-iff, forall-cons, here, mem-along}
+use Rattle.theory.specs.Laws.Lists.{all-iff, forall-cons, here, mem-along, numbered-length}
 use Rattle.words.specs.Records.{stepOf}
 use Rattle.sheets.specs.Bits.{numberAt}
 use Rattle.sheets.specs.Format.{termCount, queryAt, memberCount, memberStart, memberAt, unionOf}
@@ -20,7 +20,7 @@ use Rattle.sheets.specs.Partners.{queryAsRead}
 use Rattle.sheets.specs.Tests.{questionSound, refuses4, refuses5, memberSound, refuses6}
 use Rattle.sheets.specs.Packing.{bytesOf, packQuery, stepNumber, packMember, packUnion, All, IsByte, MemberInRange, UnionInRange}
 use Rattle.sheets.specs.Packing.{WholeBytes}
-use Rattle.sheets.specs.Laws.Tests.{itself, by-pass, not-tells, and-tells, or-tells, eqb-tells, leb-tells, records-length}
+use Rattle.sheets.specs.Laws.Tests.{itself, by-pass, not-tells, and-tells, or-tells, eqb-tells, leb-tells}
 use Rattle.sheets.specs.Laws.PackingBytes.{Stands, stands-nil, stands-whole, stands-all, stands-first, stands-second, stands-append}
 use Rattle.sheets.specs.Laws.PackingBytes.{number-below, number-stands, number-first, number-then, number-append, length-number}
 use Rattle.sheets.specs.Laws.PackingNumbers.{step-code}
@@ -221,7 +221,7 @@ module _ (w : ℕ) (whole : WholeBytes w) where
 
       union-count : length (unionOf w s) ≡ memberCount s
       unfolding unionOf
-      union-count = records-length (memberAt w s) (memberCount s)
+      union-count = numbered-length (memberAt w s) (memberCount s)
 
       pub read-union-packed : packUnion w (unionOf w s) ≡ s
       unfolding packUnion

@@ -12,10 +12,10 @@ use Rattle.theory.specs.Lists.{_∈_, pick, all, numbers}
 use Rattle.theory.specs.Syntax.{Term, Atom, concept, role, Basic, named, has, hasInverse, Rule, conceptInclusion, roleInclusion, Query}
 use Rattle.theory.specs.Syntax.{args, terms, oriented}
 use Rattle.theory.specs.Laws.Options.{T-no, either, is-true, is-false, T-eqb, pick-true, pick-false}
-use Rattle.theory.specs.Laws.Lists.{all-iff}
+use Rattle.theory.specs.Laws.Lists.{all-iff, numbers-iff}
 use Rattle.theory.specs.Laws.Syntax.{terms-answers, terms-atoms, terms-cases}
 use Rattle.sheets.specs.Partners.{partners01, isHigher, lower, atomAsRead, basicAsRead, ruleAsRead, queryAsRead}
-use Rattle.sheets.specs.Laws.Tests.{ltb-tells, lt-or-le, numbers-iff}
+use Rattle.sheets.specs.Laws.Tests.{ltb-tells, lt-or-le}
 
 -- a role's partner by a table; a role at or above the table's length is its own
 abbrev pub partnerOf : List ℕ → ℕ → ℕ

@@ -13,7 +13,7 @@ use Rattle.theory.specs.Lists.{_∈_, At, Unrepeated, pick, any}
 use Rattle.theory.specs.Syntax.{Term, var, const, Atom, concept, role, Query, args, places, terms, sameTerm, sameAtom}
 use Rattle.theory.specs.Union.{Safe}
 use Rattle.theory.specs.Laws.Options.{T-or, T-no, either, none≢some, some-inj}
-use Rattle.theory.specs.Laws.Lists.{here, at-mem, mem-at}
+use Rattle.theory.specs.Laws.Lists.{here, at-mem, mem-at, numbered-length}
 use Rattle.theory.specs.Laws.Syntax.{sameTerm-iff, sameAtom-iff, places-mem, mem-places}
 use Rattle.words.specs.Limits.{variableBound, mostTerms, mostAtoms}
 use Rattle.words.specs.Records.{termOf, atomKind, atomZero, atomName, atomFirst, atomSecond, atomOf}
@@ -24,7 +24,6 @@ use Rattle.sheets.specs.Tests.{termSound, answerSound, atomSound, questi
 use Rattle.sheets.specs.Conditions.{AtomBitSet, VariableOut, Malformed, Meets3, Meets4, Twice, Meets5}
 use Rattle.sheets.specs.Laws.Tests.{sum-iff, sum-assoc, sum-crossed, some-either, Tells, itself, by-fail, not-tells, or-tells}
 use Rattle.sheets.specs.Laws.Tests.{and-tells, pick-tells, eqb-tells, leb-tells, ltb-tells, lt-or-le, all-tells, stands-tells}
-use Rattle.sheets.specs.Laws.Tests.{records-length}
 use Rattle.sheets.specs.Laws.PartnerLaws.{terms-asRead}
 
 -- ---- 3
@@ -214,13 +213,13 @@ module _ (w : ℕ) (s : List ℕ) (at : ℕ) (sound : ¬ Malformed w s at) where
 pub query-arity : (partners : List ℕ) (w : ℕ) (s : List ℕ) (at : ℕ) → length (queryAsRead partners (queryAt w s at) .answers)
     ≡ termCount s at
 unfolding queryAsRead queryAt recordsFrom
-query-arity partners w s at = length-map (answerRecords w s at) (termOf w) ∙ records-length _ (termCount s at)
+query-arity partners w s at = length-map (answerRecords w s at) (termOf w) ∙ numbered-length _ (termCount s at)
 
 pub query-size : (partners : List ℕ) (w : ℕ) (s : List ℕ) (at : ℕ) → length (queryAsRead partners (queryAt w s at) .atoms) ≡ atomCount s at
 unfolding queryAsRead queryAt recordsFrom
 query-size partners w s at =
     length-map (map (atomOf w) (atomRecords w s at)) (atomAsRead partners) ∙ length-map (atomRecords w s at) (atomOf w)
-    ∙ records-length _ (atomCount s at)
+    ∙ numbered-length _ (atomCount s at)
 
 pub question-arity : (partners : List ℕ) (w : ℕ) (s : List ℕ) → length (questionAsRead partners w s .answers) ≡ termCount s 0
 unfolding questionAsRead

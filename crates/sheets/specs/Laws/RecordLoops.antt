@@ -15,9 +15,9 @@ use borrow.Author.Tests.{eq-eqb, ne-eqb, lt-ltb, le-ltb, leb-true, not-true, not
 use Rattle.theory.specs.Lists.{all, numbers}
 use Rattle.theory.specs.Refusals.{firstRefusal, numberOf}
 use Rattle.theory.specs.Laws.Options.{T-and, is-true}
+use Rattle.theory.specs.Laws.Lists.{numbered-length}
 use Rattle.sheets.specs.Bits.{numberAt}
 use Rattle.sheets.specs.Format.{recordsFrom}
-use Rattle.sheets.specs.Laws.Tests.{records-length}
 
 -- ---- one record
 
@@ -63,7 +63,7 @@ module _ (size : ℕ) (s : List ℕ) (from n : ℕ) where
 
   pub row-length : length (recordsFrom size s from n) ≡ n
   unfolding recordsFrom
-  row-length = records-length (λ i. numberAt s (from + size * i) size) n
+  row-length = numbered-length (λ i. numberAt s (from + size * i) size) n
 
 -- ---- a test on every record
 

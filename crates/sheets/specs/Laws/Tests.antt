@@ -1,14 +1,12 @@
 -- What a test says when it passes and when it fails, from what its parts say; and the records of a sheet by their places.
-use mathlib.Core.Path.{_≡_, refl, sym, ap, _∙_}
+use mathlib.Core.Path.{_≡_, sym}
 use mathlib.Core.Logic.{_⊎_, inl, inr, _↔_, Iff·rfl, Iff·trans}
-use Prim.Native.Nat.{ℕ, zero, suc, _+_, _≤_, _<_}
-use native.Mathlib.Nat.{eq-or-lt-of-le}
+use Prim.Native.Nat.{ℕ, suc, _≤_, _<_}
 use native.Mathlib.Omega.{arith}
 use mathlib.Core.Bool.{Bool, true, false, not, _&&_, _||_}
-use mathlib.Core.List.{List, [], _∷_, map, List·Memᴰ·head, List·Memᴰ·tail, List·Memᴰ·not-nil, Memᴰ·cast, Memᴰ·map, Memᴰ·of-map}
+use mathlib.Core.List.{List, [], _∷_, List·Memᴰ·tail}
 use lib.Dec.{T, eqb, leb, ltb, leb→le, le→leb, nleb→lt}
-use lib.ListN.{length, length-map}
-use Rattle.theory.specs.Lists.{_∈_, pick, any, all, numbers}
+use Rattle.theory.specs.Lists.{_∈_, pick, any, all}
 use Rattle.theory.specs.Laws.Options.{T-no, T-eqb, either, same-test}
 use Rattle.theory.specs.Laws.Lists.{here, all-iff, any-same}
 
@@ -139,36 +137,3 @@ some-either xs = (
   λ w. elim (w .2) [ inl p ↦ inl (w .0, w .1, p) | inr q ↦ inr (w .0, w .1, q) ],
   elim [ inl w ↦ (w .0, w .1, inl (w .2)) | inr w ↦ (w .0, w .1, inr (w .2)) ],
 )
-
--- the numbers below n
-
-numbers-found : (start n i : ℕ) → i ∈ numbers start n → (start ≤ i) × (i < start + n)
-unfolding numbers
-numbers-found start zero i m = absurd (List·Memᴰ·not-nil m)
-numbers-found start (suc n) i (List·Memᴰ·head e) = (omega arith, omega arith)
-numbers-found start (suc n) i (List·Memᴰ·tail m) = let r = numbers-found (suc start) n i m in (omega arith, omega arith)
-
-numbers-of : (start n i : ℕ) → start ≤ i → i < start + n → i ∈ numbers start n
-unfolding numbers
-numbers-of start zero i h k = absurd (omega arith)
-numbers-of start (suc n) i h k =
-    elim (eq-or-lt-of-le h) [ inl e ↦ List·Memᴰ·head (sym e) | inr l ↦ List·Memᴰ·tail (numbers-of (suc start) n i l (omega arith)) ]
-
-pub numbers-iff : (n i : ℕ) → (i ∈ numbers 0 n) ↔ (i < n)
-numbers-iff n i = (λ m. (let b = numbers-found 0 n i m in omega arith), λ l. numbers-of 0 n i (omega arith) (omega arith))
-
-length-numbers : (start n : ℕ) → length (numbers start n) ≡ n
-unfolding numbers
-length-numbers start zero = refl
-length-numbers start (suc n) = ap suc (length-numbers (suc start) n)
-
--- the records read at each of n places
-
-pub mem-numbered : {X : Type 0} (f : ℕ → X) (n : ℕ) (x : X) → (x ∈ map f (numbers 0 n)) ↔ ((i : ℕ) × (i < n) × (f i ≡ x))
-mem-numbered f n x = (
-  λ m. let (i, k, e) = Memᴰ·of-map f (numbers 0 n) m in (i, numbers-iff n i .0 k, e),
-  λ w. Memᴰ·cast (sym (w .2)) (Memᴰ·map f (numbers-iff n (w .0) .1 (w .1))),
-)
-
-pub records-length : {X : Type 0} (f : ℕ → X) (n : ℕ) → length (map f (numbers 0 n)) ≡ n
-records-length f n = length-map (numbers 0 n) f ∙ length-numbers 0 n

@@ -11,13 +11,14 @@ use Rattle.theory.specs.Lists.{_∈_, numbers}
 use Rattle.theory.specs.Syntax.{Query, Member}
 use Rattle.theory.specs.Union.{SoundQuery, SoundUnion}
 use Rattle.theory.specs.Laws.Options.{T-no}
+use Rattle.theory.specs.Laws.Lists.{numbers-iff, mem-numbered}
 use Rattle.words.specs.Limits.{mostMembers}
 use Rattle.sheets.specs.Format.{termCount, memberCount, memberStart, questionStart, memberAt, unionOf}
 use Rattle.sheets.specs.Partners.{memberAsRead}
 use Rattle.sheets.specs.Reading.{unionAsRead}
 use Rattle.sheets.specs.Tests.{refuses4, refuses5, memberSound, refuses6}
 use Rattle.sheets.specs.Laws.Tests.{sum-iff, sum-assoc, Tells, in-words, by-pass, not-tells, or-tells, and-tells, eqb-tells}
-use Rattle.sheets.specs.Laws.Tests.{leb-tells, all-tells, numbers-iff, mem-numbered}
+use Rattle.sheets.specs.Laws.Tests.{leb-tells, all-tells}
 use Rattle.sheets.specs.Laws.QuestionRefusals.{questionSound-tells, refuses4-iff, not4-safe, refuses5-twice, not5-unrepeated}
 use Rattle.sheets.specs.Laws.QuestionRefusals.{query-arity}
 use Rattle.sheets.specs.Conditions.{Malformed, Meets4, Meets5, memberQuestion, MemberUnsound, Meets6}

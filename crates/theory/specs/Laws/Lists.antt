@@ -9,9 +9,9 @@ use mathlib.Core.Bool.{Bool, true, false, _||_, or-assoc}
 use mathlib.Core.Option.{Option, none, some}
 use mathlib.Core.List.{List, [], _∷_, _++_, append-assoc, map, map-map, map-id, foldr, flatMap, List·Memᴰ·head, List·Memᴰ·tail}
 use mathlib.Core.List.{List·Memᴰ·not-nil, List·Memᴰ·cases-cons, List·Memᴰ·eq-of-singleton, List·Memᴰ·append-cases, Memᴰ·append-left}
-use mathlib.Core.List.{Memᴰ·append-right, Memᴰ·cast}
+use mathlib.Core.List.{Memᴰ·append-right, Memᴰ·cast, Memᴰ·map, Memᴰ·of-map}
 use lib.Dec.{T}
-use lib.ListN.{length, getElem?, getD, set}
+use lib.ListN.{length, getElem?, getD, set, length-map}
 use Rattle.theory.specs.Lists.{_∈_, At, Unrepeated, pick, any, all, without, once, pairwise, firstSome, toList, isSome, numbers}
 use Rattle.theory.specs.Laws.Options.{T-and, T-or, either, pick-false, some-inj, none≢some}
 
@@ -232,6 +232,31 @@ mem-numbers start zero i h k = absurd (omega arith)
 mem-numbers start (suc n) i h k =
     elim (eq-or-lt-of-le h) [ inl e ↦ List·Memᴰ·head (sym e) | inr l ↦ List·Memᴰ·tail (mem-numbers (suc start) n i l (omega arith)) ]
 
+numbers-found : (start n i : ℕ) → i ∈ numbers start n → (start ≤ i) × (i < start + n)
+unfolding numbers
+numbers-found start zero i m = absurd (List·Memᴰ·not-nil m)
+numbers-found start (suc n) i (List·Memᴰ·head e) = (omega arith, omega arith)
+numbers-found start (suc n) i (List·Memᴰ·tail m) = let r = numbers-found (suc start) n i m in (omega arith, omega arith)
+
+pub numbers-iff : (n i : ℕ) → (i ∈ numbers 0 n) ↔ (i < n)
+numbers-iff n i = (λ m. (let b = numbers-found 0 n i m in omega arith), λ l. mem-numbers 0 n i (omega arith) (omega arith))
+
+length-numbers : (start n : ℕ) → length (numbers start n) ≡ n
+unfolding numbers
+length-numbers start zero = refl
+length-numbers start (suc n) = ap suc (length-numbers (suc start) n)
+
+-- what f gives at the numbers below n
+module _ {X : Type 0} (f : ℕ → X) (n : ℕ) where
+  pub mem-numbered : (x : X) → (x ∈ map f (numbers 0 n)) ↔ ((i : ℕ) × (i < n) × (f i ≡ x))
+  mem-numbered x = (
+    λ m. let (i, k, e) = Memᴰ·of-map f (numbers 0 n) m in (i, numbers-iff n i .0 k, e),
+    λ w. Memᴰ·cast (sym (w .2)) (Memᴰ·map f (numbers-iff n (w .0) .1 (w .1))),
+  )
+
+  pub numbered-length : length (map f (numbers 0 n)) ≡ n
+  numbered-length = length-map (numbers 0 n) f ∙ length-numbers 0 n
+
 module _ {X : Type 0} (f : ℕ → ℕ → Option X) (m n : ℕ) where
   -- what f gives at two numbers, the first below m and the second below n
   abbrev pub gathered : List X
@@ -249,6 +274,12 @@ module _ {X : Type 0} (f : ℕ → ℕ → Option X) (m n : ℕ) where
       (flatMap-of (λ k. toList (f i k)) (mem-numbers zero n k (omega arith) (omega arith)) (mem-toList (f i k) .1 e))
 
 -- ---- elements by their index
+
+-- an element within a list, whatever stands for one that is not
+pub getD-within : {X : Type 0} (xs : List X) (i : ℕ) (d e : X) → i < length xs → getD xs i d ≡ getD xs i e
+getD-within [] i d e h = absurd (omega arith)
+getD-within (x ∷ xs) zero d e h = refl
+getD-within (x ∷ xs) (suc i) d e h = getD-within xs i d e (omega arith)
 
 module _ {X : Type 0} where
   pub at-mem : (xs : List X) (i : ℕ) {x : X} → At xs i x → x ∈ xs

@@ -115,3 +115,7 @@ module _ {X Y : Type 0} where
   pub found-andThen : {o : Option X} (f : X → Option Y) → ((x : X) × (o ≡ some x)) → ((x : X) → o ≡ some x → (y : Y) × (f x ≡ some y))
       → (y : Y) × (andThen o f ≡ some y)
   found-andThen f m rest = let n = rest (m .0) (m .1) in (n .0, andThen-at f (m .1) ∙ n .1)
+
+pub and-both : (a b : Bool) → (a && b) ≡ true → (a ≡ true) × (b ≡ true)
+and-both true b e = (refl, e)
+and-both false b e = absurd (let z : _≡_ {A = ℕ} 0 1 = cc in omega arith)

@@ -5,7 +5,7 @@ use Prim.Native.Nat.{ℕ}
 use mathlib.Core.Option.{Option, none, some}
 use mathlib.Core.List.{List, [], _∷_, List·Memᴰ·tail, List·Memᴰ·not-nil, List·Memᴰ·cases-cons, Memᴰ·cast}
 use lib.Dec.{T, eqb}
-use Rattle.theory.specs.Lists.{_∈_, Unrepeated, any, all, without, isSome, Pairs, lookup}
+use Rattle.theory.specs.Lists.{_∈_, Unrepeated, any, without, isSome, Pairs, lookup}
 use Rattle.theory.specs.Syntax.{Term, var, const, Query, terms, rename}
 use Rattle.theory.specs.Renaming.{Alike, variables, mayGo, mayBe, promising, complete, findRenaming, alike}
 use Rattle.theory.specs.Laws.Options.{T-no, T-eqb, some-inj, none≢some, isSome-some, tested-found, tested-of}

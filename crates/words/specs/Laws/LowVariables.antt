@@ -76,6 +76,9 @@ object-high t low h =
       | no l ↦ omega arith
     ]
 
+pub low-word : (t : ℕ) → t < 32 → wordTerm t ≡ var t
+low-word t h = variable-word t (omega arith)
+
 pub object-term : (t : ℕ) → LowTerm t → 32 ≤ t → wordTerm t ≡ const (t % wordObjectBound)
 unfolding termOf
 object-term t low h =
