@@ -23,12 +23,12 @@ use Rattle.sheets.specs.Reading.{rulesAsRead, questionAsRead}
 use Rattle.sheets.specs.Tests.{refuses3}
 use Rattle.sheets.specs.Laws.QuestionRefusals.{not3-iff, variables-in-range}
 use Rattle.sheets.specs.Laws.OneList.{first-positive}
-use Rattle.read_rules.specs.RuleWords.{RulesRead}
-use Rattle.read_question.specs.QuestionWords.{QuestionRead}
-use Rattle.check_sheet.specs.Members.{unionNumber}
 use Rattle.promises.specs.Laws.Checking.{rules-stop, question-stops, question-passes}
 use Rattle.promises.specs.Checking.{sheetsOf, checkNumber, Checked}
 use Rattle.promises.specs.Laws.CheckPromises.{zero-means}
+use Rattle.read_rules.specs.RuleWords.{RulesRead}
+use Rattle.read_question.specs.QuestionWords.{QuestionRead}
+use Rattle.check_sheet.specs.Members.{unionNumber}
 
 -- ---- rules and question, as they were read
 

@@ -22,17 +22,17 @@ use Rattle.sheets.specs.Refusals.{Sheets, checking, drawing, refusalOf, factRef
 use Rattle.sheets.specs.Reading.{unionAsRead, factsAsRead}
 use Rattle.sheets.specs.Laws.QuestionRefusals.{question-arity}
 use Rattle.sheets.specs.Laws.OneList.{number-zero, drawing-first}
-use Rattle.read_rules.specs.RuleWords.{RulesRead}
-use Rattle.read_question.specs.QuestionWords.{QuestionRead}
-use Rattle.answer_draw.specs.declared.Answers.{Answers}
-use Rattle.answer_draw.specs.Gives.{otherwise, roomNumber, Gives}
-use Rattle.answer_stages.specs.Stages.{factsNumber, GivesFromUnion}
-use Rattle.answer_draw.specs.GivesLaws.{refused-first, gives-along}
 use Rattle.promises.specs.Checking.{checkNumber}
 use Rattle.promises.specs.Drawing.{theAnswers, termsOf, bytesNeeded, outcome, Drawn}
 use Rattle.promises.specs.Laws.DrawPromises.{number-is, zero-means, fourteen-means, refused-means, count-means, list-means}
 use Rattle.promises.specs.Laws.DrawPromises.{both-readers, ascending, rest-zero}
 use Rattle.promises.specs.Laws.Drawing.{four, checked-same}
+use Rattle.read_rules.specs.RuleWords.{RulesRead}
+use Rattle.read_question.specs.QuestionWords.{QuestionRead}
+use Rattle.answer_draw.specs.declared.Answers.{Answers}
+use Rattle.answer_draw.specs.Gives.{otherwise, roomNumber, Gives}
+use Rattle.answer_draw.specs.GivesLaws.{refused-first, gives-along}
+use Rattle.answer_stages.specs.Stages.{factsNumber, GivesFromUnion}
 use Rattle.answering.proofs.CheckLaws.{rules-refused, question-refused, all-checked}
 
 -- ---- numbers, one after the other

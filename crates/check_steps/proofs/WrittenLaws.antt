@@ -16,7 +16,6 @@ use Rattle.theory.specs.Rewriting.{ruleStep, mergeStep}
 use Rattle.theory.specs.Renaming.{alike}
 use Rattle.theory.specs.Union.{yield, yieldsUnlike, anyFrom, refuses8, refuses9}
 use Rattle.theory.specs.Laws.Scans.{someFrom, numberScans}
-use Rattle.query_steps.proofs.StepLaws.{nothing-found}
 use Rattle.words.specs.Records.{ruleIn, stepKind, stepParent, stepAtom, stepOther, stepOf}
 use Rattle.words.specs.Words.{queryOf, Small, rulesIn, memberOf, unionIn}
 use Rattle.words.specs.declared.QueryWords.{QueryWords}
@@ -24,6 +23,7 @@ use Rattle.words.specs.Rows.{memberIn}
 use Rattle.words.specs.Laws.Rows.{rows, union-at, union-from, rule-there, no-rule-there}
 use Rattle.query_steps.specs.declared.steps.QueryFound.{QueryFound}
 use Rattle.query_steps.specs.StepResults.{queryFound}
+use Rattle.query_steps.proofs.StepLaws.{nothing-found}
 use Rattle.check_steps.specs.Written.{stepFrom}
 
 -- ---- a question that was found, or not

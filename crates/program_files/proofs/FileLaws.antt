@@ -11,9 +11,9 @@ use lib.Seq.{length-take-le}
 use lib.Signed.{leZ}
 use borrow.Author.Needs.{needs}
 use borrow.Rule.Slice.PartMut.{midOf, putMid, same-len-mid, mid-len, take-put}
-use Rattle.io.specs.Counts.{Counts, clamped}
 use Rattle.program_files.specs.Files.{rulesLimit, questionLimit, unionLimit, factsLimit}
 use Rattle.program_files.specs.Files.{rulesFile, questionFile, unionFile, factsFile, fileName, Reads, Grown, Taken}
+use Rattle.io.specs.Counts.{Counts, clamped}
 
 -- ---- reading
 

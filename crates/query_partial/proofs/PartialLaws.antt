@@ -13,7 +13,6 @@ use Rattle.theory.specs.Syntax.{Term, var, const, concept, role, Query, onAtoms
 use Rattle.theory.specs.Renaming.{promising}
 use Rattle.theory.specs.Laws.Options.{T-and, T-eqb, is-true, same-test}
 use Rattle.theory.specs.Laws.Spellings.{spellings}
-use Rattle.query_sets.specs.Sets.{holds}
 use Rattle.words.specs.Records.{atomOf}
 use Rattle.words.specs.Words.{Small, wordTerm, wordAtom, wordKind, wordName, wordFirst, wordSecond, LowTerm, LowAtom, firstOf, secondOf}
 use Rattle.words.specs.Laws.Scans.{queryScans}
@@ -21,6 +20,7 @@ use Rattle.words.specs.declared.QueryWords.{QueryWords}
 use Rattle.words.specs.Laws.LowVariables.{answer-low, atom-low, first-low, second-low}
 use Rattle.words.specs.Laws.LowVariables.{variable-word, object-high, object-term, word-below}
 use Rattle.words.specs.Limits.{wordObjectBound, wordTermBound}
+use Rattle.query_sets.specs.Sets.{holds}
 use Rattle.query_partial.specs.Partial.{entry, mayBecome}
 use Rattle.query_partial.specs.Partial.{samePredicate}
 use Rattle.query_partial.specs.declared.Partial.{Partial}

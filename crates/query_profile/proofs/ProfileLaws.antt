@@ -24,12 +24,12 @@ use Rattle.theory.specs.Laws.Pigeonhole.{length-dropAt}
 use Rattle.theory.specs.Laws.Equivalence.{inverse, rename-injective}
 use Rattle.theory.specs.Laws.Spellings.{spellings}
 use Rattle.theory.specs.Laws.Scans.{someFrom, testAt, some-next, some-past}
-use Rattle.query_sets.specs.Sets.{holds}
-use Rattle.query_sets.specs.Laws.Digits.{holds-none, holds-below}
 use Rattle.words.specs.Words.{queryOf, wordTerm, wordAtom}
 use Rattle.words.specs.Laws.Scans.{some-atom}
 use Rattle.words.specs.declared.QueryWords.{QueryWords}
 use Rattle.words.specs.Laws.LowVariables.{atom-low, variable-word}
+use Rattle.query_sets.specs.Sets.{holds}
+use Rattle.query_sets.specs.Laws.Digits.{holds-none, holds-below}
 use Rattle.query_variables.specs.UsedVariables.{AddsVariables}
 use Rattle.query_partial.specs.Partial.{samePredicate}
 use Rattle.query_profile.specs.Gathered.{standsIn, Gathers}

@@ -6,8 +6,8 @@ use lib.Dec.{T}
 use Rattle.theory.specs.Lists.{_∈_, any}
 use Rattle.theory.specs.Syntax.{var, Query, terms, sameTerm}
 use Rattle.theory.specs.Renaming.{Alike, promising}
-use Rattle.query_sets.specs.Sets.{holds}
 use Rattle.words.specs.Words.{queryOf, Small}
+use Rattle.query_sets.specs.Sets.{holds}
 use Rattle.query_partial.specs.Partial.{entry, mayBecome}
 use Rattle.query_partial.specs.declared.Partial.{Partial}
 use Rattle.query_renaming.specs.declared.search.Compared.{Compared}

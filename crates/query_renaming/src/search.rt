@@ -13,8 +13,8 @@ ghost use mathlib.Core.Path.{_≡_};
 ghost use mathlib.Core.Bool.{true, not, _&&_};
 ghost use Prim.Native.Nat.{_+_, _≤_, _<_};
 ghost use Rattle.theory.specs.Renaming.{alike as alikeIn, promising as promisingIn};
-ghost use Rattle.query_sets.specs.Sets.{holds};
 ghost use Rattle.words.specs.Words.{queryOf, Small};
+ghost use Rattle.query_sets.specs.Sets.{holds};
 ghost use Rattle.query_partial.specs.Partial.{entry, mayBecome};
 ghost use Rattle.query_renaming.specs.Search.{Ready, Begun, Offers, Allows, Judges, DecidesAlike};
 

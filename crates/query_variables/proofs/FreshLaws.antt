@@ -6,10 +6,10 @@ use borrow.Author.Needs.{needs}
 use Rattle.theory.specs.Lists.{any}
 use Rattle.theory.specs.Syntax.{var, terms, sameTerm}
 use Rattle.theory.specs.Rewriting.{fresh}
-use Rattle.query_sets.specs.Sets.{holds}
-use Rattle.query_sets.specs.Laws.Fresh.{lowest-is-fresh}
 use Rattle.words.specs.Words.{queryOf, Small}
 use Rattle.words.specs.declared.QueryWords.{QueryWords}
+use Rattle.query_sets.specs.Sets.{holds}
+use Rattle.query_sets.specs.Laws.Fresh.{lowest-is-fresh}
 use Rattle.query_variables.specs.FreshVariable.{fresh-low}
 
 module _ (q : QueryWords) (set r : ℕ) (held : (u : ℕ) → holds set u ≡ any (sameTerm (var u)) (terms (queryOf q))) (s : set < 4294967296)

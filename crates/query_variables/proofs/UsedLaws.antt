@@ -11,14 +11,14 @@ use Rattle.theory.specs.Lists.{any}
 use Rattle.theory.specs.Syntax.{Term, var, Atom, args, places, terms, sameTerm}
 use Rattle.theory.specs.Laws.Lists.{any-append}
 use Rattle.theory.specs.Laws.Spellings.{spellings}
-use Rattle.query_sets.specs.Sets.{holds}
-use Rattle.query_sets.specs.Laws.Digits.{holds-none}
 use Rattle.theory.specs.Laws.Scans.{first-more}
 use Rattle.words.specs.Words.{queryOf, wordTerm, wordAtom, wordKind, wordFirst, wordSecond, LowTerm, firstOf, secondOf, LowTerm, firstOf}
 use Rattle.words.specs.Words.{secondOf}
 use Rattle.words.specs.declared.QueryWords.{QueryWords}
 use Rattle.words.specs.Laws.LowVariables.{answer-low, atom-low, concept-atom, role-atom, first-low, second-low}
 use Rattle.words.specs.Laws.LowVariables.{variable-word, object-term}
+use Rattle.query_sets.specs.Sets.{holds}
+use Rattle.query_sets.specs.Laws.Digits.{holds-none}
 use Rattle.query_variables.specs.UsedVariables.{AddsVariables}
 
 -- ---- terms put in, one after the other

@@ -9,8 +9,8 @@ ghost use mathlib.Core.List.{[], _∷_};
 ghost use Prim.Native.Nat.{ℕ};
 ghost use Rattle.theory.specs.Lists.{any};
 ghost use Rattle.theory.specs.Syntax.{var, args, places, terms, sameTerm};
-ghost use Rattle.query_sets.specs.Sets.{holds};
 ghost use Rattle.words.specs.Words.{queryOf, Small, wordTerm, wordAtom, LowTerm, LowAtom};
+ghost use Rattle.query_sets.specs.Sets.{holds};
 ghost use Rattle.query_variables.specs.UsedVariables.{AddsVariables};
 
 // The set with the term put in if it is a variable. The word of a variable is its number, that of an object is 0x1000000 or more.

@@ -16,8 +16,8 @@ use Rattle.words.specs.Limits.{sheetWidth, stepBytes, mostUnionBytes}
 use Rattle.sheets.specs.Format.{questionLength, termCount, memberCount, memberStart, firstQuestion}
 use Rattle.sheets.specs.Showing.{hasMember, memberPart, partStart, Placed}
 use Rattle.sheets.specs.Tests.{refuses6}
-use Rattle.read_walk.specs.Ends.{memberEnd}
 use Rattle.sheets.specs.Laws.UnionLengths.{first-begins, accepted, at-least, at-most, refused}
+use Rattle.read_walk.specs.Ends.{memberEnd}
 use Rattle.read_walk.specs.EndLaws.{end-begins, end-within, start-within}
 
 pub start-reached : (s : List ℕ) (at j m : ℕ) → at ≡ memberStart sheetWidth s j → j ≤ m → m ≤ j → at ≡ memberStart sheetWidth s m

@@ -27,12 +27,12 @@ use Rattle.sheets.specs.Laws.QuestionRefusals.{questionSound-tells}
 use Rattle.sheets.specs.Partners.{queryAsRead, memberAsRead}
 use Rattle.sheets.specs.Reading.{unionAsRead}
 use Rattle.sheets.specs.Tests.{questionSound, refuses6}
+use Rattle.sheets.specs.Laws.UnionLengths.{first-begins, accepted, at-least, at-most}
 use Rattle.read_records.specs.ReadIntoLaws.{sheet-refused, sheet-read}
 use Rattle.read_question.specs.QuestionWords.{ReadFrom}
 use Rattle.read_walk.specs.Ends.{memberEnd}
 use Rattle.read_walk.specs.EndLaws.{end-begins, end-within, start-within}
 use Rattle.read_union.specs.Members.{Readable, RowOf, NarrowRow, NarrowRows, UnionRead}
-use Rattle.sheets.specs.Laws.UnionLengths.{first-begins, accepted, at-least, at-most}
 
 -- ---- the words of a row
 

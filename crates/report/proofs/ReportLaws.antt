@@ -17,9 +17,9 @@ use mir.Val.{Fits}
 use Rattle.words.specs.Limits.{objectBound}
 use Rattle.promises.specs.Report.{newline, space, refusedText, acceptedText, decimalOf, separator, objectAt, objectsAt, line, linesAt}
 use Rattle.promises.specs.Report.{firstLine, report}
+use Rattle.promises.specs.Laws.Printing.{refused-report, listed-report}
 use Rattle.report.specs.Put.{Put}
 use Rattle.report.specs.Laws.Decimal.{fewest-decimal, short-decimal}
-use Rattle.promises.specs.Laws.Printing.{refused-report, listed-report}
 use Rattle.io.specs.Counts.{Counts}
 use Rattle.io.specs.Digits.{digits, Fewest}
 

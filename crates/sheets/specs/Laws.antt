@@ -15,3 +15,4 @@ pub mod PackingSheets
 pub mod PackingQueries
 pub mod PackingUnions
 pub mod ObjectRange
+pub mod TupleOrder

@@ -9,8 +9,8 @@ use lib.Seq.{getD-take, take-all}
 use Rattle.promises.specs.Drawing.{Outcome}
 use Rattle.promises.specs.Report.{report}
 use Rattle.promises.specs.Text.{listRoom, textFor}
-use Rattle.program_files.specs.Files.{rulesLimit, questionLimit, unionLimit, factsLimit, HoldsFile, Filled, TextOf}
 use Rattle.promises.specs.Laws.Cut.{cutTo, cut-same}
+use Rattle.program_files.specs.Files.{rulesLimit, questionLimit, unionLimit, factsLimit, HoldsFile, Filled, TextOf}
 
 -- one byte beyond each limit is enough
 pub read-enough : (rules question union facts : List ℕ)

@@ -2,11 +2,11 @@ use Prim.Native.Nat.{ℕ, _-_, _≤_, _<_}
 use borrow.Fn.Kinds.{In}
 use borrow.Fn.PlainCycle.{Measures, is, falls, and}
 use Rattle.query_sets.proofs.has.Reads as has-reads
+use Rattle.query_partial.proofs.assign.Reads as assign-reads
 use Rattle.query_renaming.proofs.SearchLaws.{laws, Seeks, past-unviable, past-undecided}
 use Rattle.query_renaming.proofs.search.complete.Reads as complete
 use Rattle.query_renaming.proofs.search.complete.Kinds as complete-kinds
 use Rattle.query_renaming.proofs.search.+complete.Lts-complete as complete-lts
-use Rattle.query_partial.proofs.assign.Reads as assign-reads
 use Rattle.query_renaming.proofs.search.offers.Reads as offers-reads
 use Rattle.query_renaming.proofs.search.viable.Reads as viable-reads
 use Rattle.query_renaming.proofs.search.+complete.{statement}
