@@ -6,7 +6,7 @@ use mathlib.Core.List.{List}
 use borrow.Author.Needs.{needs}
 use Rattle.words.specs.Limits.{mostFacts}
 use Rattle.read_facts.specs.FactSheets.{FactsRead}
-use Rattle.read_union.specs.Members.{UnionRead}
+use Rattle.read_union.specs.UnionRows.{UnionRead}
 
 -- what holds of both holds of the word's two parts
 packed : (P : ℕ → ℕ → Type 0) (number count : ℕ) → count ≤ mostFacts → P number count

@@ -6,7 +6,7 @@ ghost use lib.ListN.{length};
 ghost use Rattle.words.specs.Limits.{mostFacts};
 ghost use Rattle.words.specs.Words.{tableWords};
 ghost use Rattle.read_facts.specs.FactSheets.{FactsRead};
-ghost use Rattle.read_union.specs.Members.{UnionRead};
+ghost use Rattle.read_union.specs.UnionRows.{UnionRead};
 ghost use Rattle.bench_lib.specs.Packed.{packedNumber, packedCount};
 
 // Reads the fact sheet into the table: 65,536 times the number of the refusal, 0 for none, and the number of facts.

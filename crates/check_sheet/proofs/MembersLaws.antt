@@ -25,7 +25,7 @@ use Rattle.sheets.specs.Laws.QuestionRefusals.{refuses5-twice, not5-unrepeated,
 use Rattle.sheets.specs.Laws.UnionRefusals.{not6-iff}
 use Rattle.sheets.specs.Conditions.{memberQuestion}
 use Rattle.sheets.specs.Laws.ObjectRange.{constants-in-range}
-use Rattle.read_union.specs.Members.{UnionRead}
+use Rattle.read_union.specs.UnionRows.{UnionRead}
 use Rattle.check_sheet.specs.Members.{Members, MembersRead}
 
 -- ---- the members of a union that doesn't meet 6

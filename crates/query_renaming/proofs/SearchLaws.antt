@@ -28,7 +28,7 @@ use Rattle.query_sets.specs.Sets.{holds}
 use Rattle.query_sets.specs.Laws.Digits.{holds-none}
 use Rattle.query_partial.specs.Partial.{entry, mayBecome, Sends}
 use Rattle.query_partial.specs.declared.Partial.{Partial}
-use Rattle.query_renaming.specs.Search.{Ready, Begun, Follows, Renaming, GoesOn, Offers, Allows, Judges, DecidesAlike}
+use Rattle.query_renaming.specs.Comparison.{Ready, Begun, Follows, Renaming, GoesOn, Offers, Allows, Judges, DecidesAlike}
 use Rattle.query_renaming.specs.declared.search.Compared.{Compared}
 
 -- ---- a promising partial renaming that sends every variable is a renaming

@@ -1,2 +1,2 @@
 -- What the contracts cite.
-pub mod Search
+pub mod Comparison

@@ -16,7 +16,7 @@ ghost use Rattle.theory.specs.Renaming.{alike as alikeIn, promising as promisin
 ghost use Rattle.words.specs.Words.{queryOf, Small};
 ghost use Rattle.query_sets.specs.Sets.{holds};
 ghost use Rattle.query_partial.specs.Partial.{entry, mayBecome};
-ghost use Rattle.query_renaming.specs.Search.{Ready, Begun, Offers, Allows, Judges, DecidesAlike};
+ghost use Rattle.query_renaming.specs.Comparison.{Ready, Begun, Offers, Allows, Judges, DecidesAlike};
 
 // Two queries with the sets of their variables.
 pub struct Compared {

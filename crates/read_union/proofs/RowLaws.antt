@@ -32,7 +32,7 @@ use Rattle.read_records.specs.ReadIntoLaws.{sheet-refused, sheet-read}
 use Rattle.read_question.specs.QuestionWords.{ReadFrom}
 use Rattle.read_walk.specs.Ends.{memberEnd}
 use Rattle.read_walk.specs.EndLaws.{end-begins, end-within, start-within}
-use Rattle.read_union.specs.Members.{Readable, RowOf, NarrowRow, NarrowRows, UnionRead}
+use Rattle.read_union.specs.UnionRows.{Readable, RowOf, NarrowRow, NarrowRows, UnionRead}
 
 -- ---- the words of a row
 

@@ -21,7 +21,7 @@ ghost use Rattle.words.specs.Records.{stepOf};
 ghost use Rattle.words.specs.Words.{TermWords, queryOf, unionIn, stride, tableWords};
 ghost use Rattle.sheets.specs.Format.{memberAt};
 ghost use Rattle.sheets.specs.Partners.{memberAsRead};
-ghost use Rattle.read_union.specs.Members.{Readable, RowOf, NarrowRows, UnionRead};
+ghost use Rattle.read_union.specs.UnionRows.{Readable, RowOf, NarrowRows, UnionRead};
 
 // The row of a member, from its step and its question.
 fn member_words(step: u64, q: QueryWords) -> [u64; MEMBER_WORDS]
