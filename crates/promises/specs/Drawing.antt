@@ -1,6 +1,5 @@
 -- What drawing answers gives, with only bytes in it (01, "What the desk turns back", and the end of that section): demands 1 and 3.
--- Everything
--- follows from the four sheets and the length of the lent list, `room`.
+-- Everything follows from the four sheets and the length of the lent list, `room`.
 use mathlib.Core.Path.{_≡_}
 use mathlib.Core.Logic.{_↔_}
 use Prim.Native.Nat.{ℕ, _*_, _-_, _≤_, _<_}
@@ -85,8 +84,7 @@ module _ (rules question union facts : List ℕ) (room : ℕ) where
     -- 14 exactly when all that is wrong is the length of the list
     pub short : (number ≡ 14) ↔ (SoundAndAccepted rules question union × SoundFacts facts × (room < bytesNeeded question union facts))
     -- demand 3: "the list that a call draws has them all and no others": a tuple of registered objects is in the list exactly when the
-    -- question
-    -- finds it in some round from the facts under the rules
+    -- question finds it in some round from the facts under the rules
     pub readers : number ≡ 0 → (tuple : List ℕ) → Registered tuple
         → Listed list count (termsOf question) tuple ↔ SecondReader (theRules rules) (theQuestion question) (theFacts facts) tuple
     -- "ascending and each once": of two places the earlier has the lesser tuple

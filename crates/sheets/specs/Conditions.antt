@@ -1,7 +1,6 @@
 -- 01, "What the desk turns back": the conditions of refusals 1 to 6, 12 and 13, in 01's words (those of 7 to 11 are in the crate
 -- `theory`, Union). Beside each stands its test, in Tests; Laws/ has that the test passes exactly where the condition holds. `at` is the
--- byte at
--- which a question begins, w the width of an object's number.
+-- byte at which a question begins, w the width of an object's number.
 use mathlib.Core.Path.{_≡_}
 use mathlib.Core.Logic.{_⊎_}
 use Prim.Native.Nat.{ℕ, _+_, _%_, _^_, _≤_, _<_}

@@ -139,8 +139,8 @@ module _ (partners : List ℕ) (w : ℕ) where
   refusalOf takes sheets = firstRefusal (testsFor takes sheets refusals)
 
   -- "Rules are sound if they meet neither 1 nor 2, a question if none of 3 to 5, a union if not 6, facts if neither 12 nor 13. A sheet's
-  -- own
-  -- refusals that checking or drawing gains later count here too": sheets are sound if none of the list's refusals that read them applies.
+  -- own refusals that checking or drawing gains later count here too": sheets are sound if none of the list's refusals that read them
+  -- applies.
   abbrev pub Sound : Which → Sheets → Type 0
   Sound takes sheets = refusalOf takes sheets ≡ none
 
