@@ -18,7 +18,7 @@ extern "C" {
 #endif
 
 /* The version of header and library; CHANGELOG.md says what changed. */
-#define TAKWISHAN_VERSION "0.6.0"
+#define TAKWISHAN_VERSION "0.7.0"
 
 /* The longest sheets, in bytes; a longer one is refused. */
 enum {
@@ -38,6 +38,12 @@ enum {
     TAKWISHAN_MOST_MEMBERS = 512,
     TAKWISHAN_MOST_FACTS = 10000,
     TAKWISHAN_OBJECT_BYTES = 2            /* of an object in an answer list, high byte first */
+};
+
+/* Lost tags: gear without a tag is entered under these objects and those between. They may help a match and are in no answer. */
+enum {
+    TAKWISHAN_FIRST_LOST_TAG = 65024,
+    TAKWISHAN_LAST_LOST_TAG = 65535
 };
 
 /* What is refused: the first entry whose condition holds decides, for the earlier ones not holding. */
@@ -71,7 +77,7 @@ enum takwishan_number {
     TAKWISHAN_FACT_SHEET_LENGTH = 12,
     /* A fact has a set bit that must be zero. */
     TAKWISHAN_FACT_MALFORMED = 13,
-    /* The answer list is shorter than 2 x terms x answers bytes. */
+    /* The answer list is shorter than 2 x terms x answers bytes. (Tuples that are left out for a lost tag take no room.) */
     TAKWISHAN_LIST_TOO_SHORT = 14
 };
 
@@ -93,8 +99,9 @@ uint32_t takwishan_check(const uint8_t *rules, size_t rules_length, const uint8_
 
 /*
  * Draws the answers into the list. Where the number is 0, the list holds `count` tuples, each with as many objects of two bytes as the
- * question has answer terms, ascending, each once: exactly those that facts and rules bear out. The bytes after them are zero. On a
- * refusal of 1 to 14 the count is 0 and the whole list is zeros.
+ * question has answer terms, ascending, each once: exactly those that facts and rules bear out and that hold no lost tag. The bytes after
+ * them are zero. On a refusal of 1 to 14 the count is 0 and the whole list is zeros. A lost tag among the answer terms is no refusal: such
+ * a question has no answers.
  */
 struct takwishan_answers takwishan_answer(const uint8_t *rules, size_t rules_length, const uint8_t *question, size_t question_length,
                                           const uint8_t *union_sheet, size_t union_length, const uint8_t *facts, size_t facts_length,

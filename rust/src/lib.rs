@@ -44,8 +44,9 @@ pub fn check(rules: &[u8], question: &[u8], union: &[u8]) -> Result<(), Refusal>
 /// Draws the answers of an accepted union from facts into the list, and returns how many there are.
 ///
 /// The list then holds that many tuples, each with as many objects as the question has answer terms, two bytes an object with the high byte
-/// first, ascending, each once; the bytes after them are zero. They are exactly the tuples that facts and rules bear out. On a refusal
-/// of 1 to 14 the whole list is zeros. A question without answer terms has 0 answers or 1, and writes no bytes.
+/// first, ascending, each once; the bytes after them are zero. They are exactly the tuples that facts and rules bear out and that hold no
+/// lost tag ([`limits::LOST_TAGS`]): an object without a tag may help a match, but a tuple with one is neither listed nor counted, and takes
+/// no room. On a refusal of 1 to 14 the whole list is zeros. A question without answer terms has 0 answers or 1, and writes no bytes.
 pub fn answer(rules: &[u8], question: &[u8], union: &[u8], facts: &[u8], list: &mut [u8]) -> Result<usize, Refusal> {
     let drawn = outcome(rules, question, union, facts, list);
     given(drawn.number)?;

@@ -1,4 +1,4 @@
-//! The limits of the sheets. A sheet beyond one is refused.
+//! The limits of the sheets, beyond which one is refused; and the objects that are in no answer.
 
 /// The longest rule sheet: 512 rules of 4 bytes.
 pub const MOST_RULE_BYTES: usize = 2_048;
@@ -25,3 +25,6 @@ pub const MOST_MEMBERS: usize = 512;
 pub const MOST_FACTS: usize = 10_000;
 /// The bytes of an object in an answer list, high byte first.
 pub const OBJECT_BYTES: usize = 2;
+
+/// Lost tags: gear without a tag is entered under these objects. They may help a match and are in no answer.
+pub const LOST_TAGS: std::ops::RangeInclusive<u16> = 65_024..=65_535;

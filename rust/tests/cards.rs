@@ -1,4 +1,4 @@
-//! The cards of tests/vectors, K1 to K12 among them, through the wrapper.
+//! The cards of tests/vectors, 01's K1 to K12 and those of 02's requests among them, through the wrapper.
 use takwishan::{answer, check, member, outcome, Refusal};
 use vectors::{case, Case};
 
@@ -46,6 +46,27 @@ fn the_empty_tuple_needs_no_list() {
     let k5 = case("K5");
     assert_eq!(drawn(&k5, &k5.facts, 0), (Ok(1), vec![]));
     assert_eq!(drawn(&k5, &[], 0), (Ok(0), vec![]));
+}
+
+/// What is left out for a lost tag takes no room: 2 bytes are enough for 9 beside every object without a tag.
+#[test]
+fn lost_tags_are_left_out() {
+    let k1 = case("K1");
+    let mut facts = vec![0x80, 0x01, 0x00, 0x09, 0xff, 0xff]; // driven by: 9, 65535
+    for tag in takwishan::limits::LOST_TAGS {
+        facts.extend([0x00, 0x01]); // concept 1
+        facts.extend(tag.to_be_bytes());
+        facts.extend([0x00, 0x00]);
+    }
+    assert_eq!(drawn(&k1, &facts, 2), (Ok(1), vec![0, 9]));
+    for handed_out in [takwishan::limits::LOST_TAGS.start() - 1, 0] {
+        let mut facts = facts.clone();
+        facts.extend([0x00, 0x01]);
+        facts.extend(handed_out.to_be_bytes());
+        facts.extend([0x00, 0x00]);
+        assert_eq!(drawn(&k1, &facts, 2).0, Err(Refusal::ListTooShort));
+        assert_eq!(drawn(&k1, &facts, 4).0, Ok(2));
+    }
 }
 
 #[test]

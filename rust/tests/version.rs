@@ -1,4 +1,4 @@
-//! One version: the wrapper's, the header's, and that of the newest entry of CHANGELOG.md.
+//! One version: the wrapper's, the header's, and that of the newest entry of CHANGELOG.md; and the same numbers in wrapper and header.
 
 /// What stands between `before` and `after` on the first line that has both.
 fn between(text: &str, before: &str, after: &str) -> String {
@@ -21,4 +21,16 @@ fn wrapper_header_and_changelog_agree() {
     let newest = between(include_str!("../../CHANGELOG.md"), "## ", ":");
     assert_eq!(header, takwishan::VERSION);
     assert_eq!(newest, takwishan::VERSION);
+}
+
+#[test]
+fn wrapper_and_header_have_the_same_lost_tags() {
+    let header = include_str!("../../include/takwishan.h");
+    let first = between(header, "    TAKWISHAN_FIRST_LOST_TAG = ", ",");
+    let last = header
+        .lines()
+        .find_map(|line| line.strip_prefix("    TAKWISHAN_LAST_LOST_TAG = "));
+    let tags = takwishan::limits::LOST_TAGS;
+    assert_eq!(first, tags.start().to_string());
+    assert_eq!(last, Some(tags.end().to_string().as_str()));
 }

@@ -4,6 +4,10 @@ use std::collections::BTreeSet;
 /// What the facts of a sheet are; the largest sheet has so many.
 pub const MOST_FACTS: usize = 10_000;
 
+/// Objects from here on, so many, are in no answer: gear without a tag.
+const FIRST_LOST_TAG: u64 = 65_024;
+const LOST_TAGS: u64 = 512;
+
 pub const SHORT: usize = 16 << 10;
 pub const MIDDLE: usize = 128 << 10;
 pub const LONG: usize = 4 << 20;
@@ -291,7 +295,8 @@ fn one_atom(cases: &mut Vec<Case>) {
                 continue;
             }
             let mut draw = Draw::new();
-            let facts = (0..MOST_FACTS as u64).map(|x| (true, link(0), x, draw.below(65536)));
+            let facts =
+                (0..MOST_FACTS as u64).map(|x| (true, link(0), x, draw.below(FIRST_LOST_TAG)));
             let facts = facts.collect();
             let entries = filled(facts, order, &mut draw);
             let name = format!("every fact an answer, facts {said}");
@@ -313,8 +318,8 @@ fn pairs(cases: &mut Vec<Case>) {
         let mut draw = Draw::new();
         let mut facts = Vec::new();
         for x in 0..200 {
-            facts.push((true, 20, x, draw.below(65536)));
-            facts.push((true, 21, 1000 + x, draw.below(65536)));
+            facts.push((true, 20, x, draw.below(FIRST_LOST_TAG)));
+            facts.push((true, 21, 1000 + x, draw.below(FIRST_LOST_TAG)));
         }
         let question = Query {
             answers: vec![var(0), var(1), var(2), var(3)],
@@ -406,6 +411,32 @@ fn dead_ends(cases: &mut Vec<Case>) {
     }
 }
 
+/// Gear without a tag: in half of the facts of one atom; in half of the objects that a chain begins with.
+fn lost_tags(cases: &mut Vec<Case>) {
+    let mut draw = Draw::new();
+    let facts = (0..MOST_FACTS as u64)
+        .map(|x| match x % 2 {
+            0 => (true, link(0), x, draw.below(FIRST_LOST_TAG)),
+            _ => (true, link(0), x, FIRST_LOST_TAG + draw.below(LOST_TAGS)),
+        })
+        .collect();
+    let entries = filled(facts, Order::Drawn, &mut draw);
+    let question = chain(1, vec![var(0), var(1)]);
+    let name = "every second fact without a tag";
+    cases.push(case(name, question, &[], entries, MIDDLE));
+
+    let mut facts = layers(4, 1_000, 1, &mut draw);
+    for fact in &mut facts {
+        if fact.1 == link(0) && fact.2 < LOST_TAGS {
+            fact.2 += FIRST_LOST_TAG;
+        }
+    }
+    let entries = filled(facts, Order::Drawn, &mut draw);
+    let question = chain(4, vec![var(0), var(4)]);
+    let name = "chain, both ends asked, half of the first without a tag";
+    cases.push(case(name, question, &[], entries, MIDDLE));
+}
+
 /// Concepts; objects that every member finds; names below each of eight atoms; a role to itself.
 fn others(cases: &mut Vec<Case>) {
     let concept = Query {
@@ -480,6 +511,7 @@ pub fn all() -> Vec<Case> {
     pairs(&mut cases);
     settled(&mut cases);
     dead_ends(&mut cases);
+    lost_tags(&mut cases);
     others(&mut cases);
     cases
 }

@@ -102,16 +102,17 @@ fn member(query: &Query) -> String {
     }
     let mut answers = Vec::new();
     for (k, &term) in query.answers.iter().enumerate() {
-        answers.push(match term {
-            Term::Object(object) => format!("{object} AS a{k}"),
+        let value = match term {
+            Term::Object(object) => object.to_string(),
             Term::Variable(v) => {
-                let column = join.column[v as usize].as_ref();
-                format!(
-                    "{} AS a{k}",
-                    column.expect("an answer variable stands in an atom")
-                )
+                let column = join.column[v as usize].clone();
+                column.expect("an answer variable stands in an atom")
             }
-        });
+        };
+        answers.push(format!("{value} AS a{k}"));
+        // a lost tag is in no answer
+        join.wants
+            .push(format!("{value} NOT BETWEEN 65024 AND 65535"));
     }
     if answers.is_empty() {
         answers.push("1".to_string());

@@ -1,6 +1,8 @@
--- Worked examples, computed with the definitions: Notation, then 01's own (Examples) and those of the source documents (Closure).
+-- Worked examples, computed with the definitions: Notation, then 01's own (Examples, from bytes Sheets and Cards), those of the source
+-- documents (Closure) and those of 02's requests (Requests).
 pub mod Notation
 pub mod Examples
 pub mod Closure
 pub mod Sheets
 pub mod Cards
+pub mod Requests

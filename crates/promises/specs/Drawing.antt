@@ -84,7 +84,7 @@ module _ (rules question union facts : List ℕ) (room : ℕ) where
     -- 14 exactly when all that is wrong is the length of the list
     pub short : (number ≡ 14) ↔ (SoundAndAccepted rules question union × SoundFacts facts × (room < bytesNeeded question union facts))
     -- demand 3: "the list that a call draws has them all and no others": a tuple of registered objects is in the list exactly when the
-    -- question finds it in some round from the facts under the rules
+    -- second reader finds it: it holds no lost tag (02, T-01), and the question has it in some round from the facts under the rules
     pub readers : number ≡ 0 → (tuple : List ℕ) → Registered tuple
         → Listed list count (termsOf question) tuple ↔ SecondReader (theRules rules) (theQuestion question) (theFacts facts) tuple
     -- "ascending and each once": of two places the earlier has the lesser tuple

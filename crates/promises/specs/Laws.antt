@@ -5,5 +5,6 @@ pub mod CheckPromises
 pub mod AnswerBytes
 pub mod Drawing
 pub mod DrawPromises
+pub mod LostTags
 pub mod Printing
 pub mod Cut

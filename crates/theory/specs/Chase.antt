@@ -6,6 +6,7 @@ use mathlib.Core.List.{List, [], map}
 use Rattle.theory.specs.Lists.{_∈_, At}
 use Rattle.theory.specs.Syntax.{Term, Atom, role, Rule, conceptInclusion, roleInclusion, Query, Member, UCQ, Fact, Thing, object}
 use Rattle.theory.specs.Syntax.{null, mapAtom, value, instance, oriented}
+use Rattle.theory.specs.LostTags.{Answerable}
 
 -- what is held: a set of atoms over things
 abbrev pub Held : Type 1
@@ -29,10 +30,18 @@ pub record Answer (H : Held) (q : Query) (tuple : List ℕ) : Type 0 where
   pub holds : (a : Atom Term) → a ∈ q .atoms → H (mapAtom (value match) a)
   pub sends : map (value match) (q .answers) ≡ map object tuple
 
--- The first reader: the tuple is an answer of some member's question in round 0, which no rule takes part in.
-abbrev pub FirstReader : UCQ → List Fact → List ℕ → Type 0
-FirstReader union facts tuple = (m : Member) × (m ∈ union) × Answer (Round [] facts zero) (m .query) tuple
+-- the tuple is an answer of some member's question in round 0, which no rule takes part in
+abbrev pub OfSomeMember : UCQ → List Fact → List ℕ → Type 0
+OfSomeMember union facts tuple = (m : Member) × (m ∈ union) × Answer (Round [] facts zero) (m .query) tuple
 
--- The second reader: the tuple is an answer of the question in round n, for some n.
+-- the tuple is an answer of the question in round n, for some n
+abbrev pub InSomeRound : List Rule → Query → List Fact → List ℕ → Type 0
+InSomeRound rules q facts tuple = (n : ℕ) × Answer (Round rules facts n) q tuple
+
+-- The first reader takes the union and the facts alone, the second the question and the rounds. 02, T-01: "Neither reader then finds such
+-- a tuple", one that holds a lost tag.
+abbrev pub FirstReader : UCQ → List Fact → List ℕ → Type 0
+FirstReader union facts tuple = Answerable tuple × OfSomeMember union facts tuple
+
 abbrev pub SecondReader : List Rule → Query → List Fact → List ℕ → Type 0
-SecondReader rules q facts tuple = (n : ℕ) × Answer (Round rules facts n) q tuple
+SecondReader rules q facts tuple = Answerable tuple × InSomeRound rules q facts tuple

@@ -31,6 +31,7 @@ pub mod UnionTests
 pub mod Union
 -- answers from facts
 pub mod Chase
+pub mod LostTags
 pub mod Matches
 pub mod Answers
 -- both readers agree

@@ -1,3 +1,4 @@
 pub mod RowLaws
 pub mod StepLaws
+pub mod TagLaws
 pub mod WordLaws

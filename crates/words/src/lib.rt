@@ -1,6 +1,7 @@
 // Words: a query in a struct, and terms and atoms as numbers.
 pub mod facts;
 pub mod limits;
+pub mod lost_tags;
 pub mod rows;
 pub mod rules;
 pub mod steps;

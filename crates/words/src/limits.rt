@@ -1,4 +1,4 @@
-// The limits of 01 that the code needs; `Limits` in specs/ has all of them, with 01's words.
+// The limits of 01 and 02 that the code needs; `Limits` in specs/ has all of 01's, in 01's words.
 
 // A rule, a step, an answer term, an atom, a fact and the count of a union, in bytes.
 pub const RULE_BYTES: usize = 4;
@@ -50,3 +50,8 @@ pub const TUPLE_BYTES: usize = 8;
 
 // One more than the largest object of a word: a word from here on says that a variable is not bound.
 pub const WORD_OBJECT_BOUND: u64 = 0x1000000;
+
+// The first and the last of the objects that stand in no answer (02, T-01); theory's `LostTags` has them.
+pub const FIRST_LOST_TAG: u64 = 65024;
+
+pub const LAST_LOST_TAG: u64 = 65535;

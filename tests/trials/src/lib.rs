@@ -8,6 +8,7 @@ pub mod damage;
 pub mod damage_bytes;
 pub mod library;
 pub mod limits;
+pub mod lost_tags;
 pub mod make;
 pub mod matches;
 pub mod refusals;

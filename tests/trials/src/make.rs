@@ -20,6 +20,15 @@ fn role(chance: &mut Chance) -> u16 {
     }
 }
 
+/// An object, at times at an edge; of 12 so many are lost tags, or beside them.
+fn object(lost: usize, chance: &mut Chance) -> u16 {
+    match chance.weighed(&[9, 3, lost]) {
+        0 => chance.from(0, 9) as u16,
+        1 => chance.of(&[0, 1, 31, 256, 65_023]),
+        _ => chance.of(&[65_023, 65_024, 65_024, 65_025, 65_300, 65_534, 65_535, 65_535]),
+    }
+}
+
 pub fn names(chance: &mut Chance) -> Names {
     let roles: Vec<u16> = (0..1 + chance.weighed(&[4, 4, 2])).map(|_| role(chance)).collect();
     let mut concepts = Vec::new();
@@ -32,15 +41,8 @@ pub fn names(chance: &mut Chance) -> Names {
         };
         concepts.push(concept);
     }
-    let objects = (0..chance.from(1, 6))
-        .map(|_| {
-            if chance.one_in(4) {
-                chance.of(&[0, 1, 31, 256, 65535])
-            } else {
-                chance.from(0, 9) as u16
-            }
-        })
-        .collect();
+    let lost = chance.of(&[0, 0, 2, 6]);
+    let objects = (0..chance.from(1, 6)).map(|_| object(lost, chance)).collect();
     Names {
         concepts,
         roles,
@@ -214,8 +216,13 @@ fn facts(names: &Names, many: usize, chance: &mut Chance) -> Vec<Fact> {
 /// Facts that a member's question matches.
 fn matched_by(question: &Question, names: &Names, chance: &mut Chance) -> Vec<Fact> {
     let distinct = chance.one_in(2);
+    let one_lost_in = chance.of(&[2, 4, 1000]);
     let images: Vec<u16> = (0..32)
-        .map(|x| if distinct { 40 + x } else { chance.of(&names.objects) })
+        .map(|x| match distinct {
+            true if chance.one_in(one_lost_in) => 65_024 + x,
+            true => 40 + x,
+            false => chance.of(&names.objects),
+        })
         .collect();
     let image = |term: Term| match term {
         Term::Variable(x) => images[x as usize],

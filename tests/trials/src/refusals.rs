@@ -3,6 +3,7 @@
 
 use crate::alike::{alike, Classes};
 use crate::chase::Held;
+use crate::lost_tags;
 use crate::rewrite;
 use crate::sheets::{self, Fact, Member, Question, Rule};
 use std::collections::BTreeSet;
@@ -146,6 +147,8 @@ pub struct Drawn {
     pub accepted: Accepted,
     pub facts: Vec<Fact>,
     pub answers: BTreeSet<Vec<u16>>,
+    /// Tuples that are no answers only because they hold a lost tag.
+    pub left_out: BTreeSet<Vec<u16>>,
     pub never_ends: bool,
 }
 
@@ -154,11 +157,15 @@ pub fn draw(sheets: &Sheets, most: usize) -> Result<Option<Drawn>, u32> {
     let accepted = check(sheets)?;
     let facts = sheets::facts(&sheets.facts)?;
     let atoms = accepted.question.atoms.len();
-    Ok(Held::rounds(&accepted.rules, &facts, atoms, most).map(|held| Drawn {
-        answers: held.answers(&accepted.question),
-        never_ends: held.never_end(&accepted.rules),
-        accepted,
-        facts,
+    Ok(Held::rounds(&accepted.rules, &facts, atoms, most).map(|held| {
+        let (answers, left_out) = lost_tags::parted(held.tuples(&accepted.question));
+        Drawn {
+            answers,
+            left_out,
+            never_ends: held.never_end(&accepted.rules),
+            accepted,
+            facts,
+        }
     }))
 }
 
@@ -178,9 +185,14 @@ pub fn refused(number: u32, length: usize) -> Outcome {
 }
 
 impl Drawn {
-    /// Bytes that the list must have.
+    /// Bytes that a tuple takes.
+    pub fn tuple(&self) -> usize {
+        2 * self.accepted.question.answers.len()
+    }
+
+    /// Bytes that the list must have: what is left out takes no room.
     pub fn needed(&self) -> usize {
-        2 * self.accepted.question.answers.len() * self.answers.len()
+        self.tuple() * self.answers.len()
     }
 
     /// Number, count and all bytes of a list of this length: refusal 14, or the answers ascending and zeros after them.
@@ -202,9 +214,25 @@ impl Drawn {
         }
     }
 
-    /// What the first reader finds with these questions: the tuples that are answers of one of them in round 0.
+    /// What the first reader finds with these questions: the tuples without a lost tag that are answers of one of them in round 0.
     pub fn from_facts<'a>(&self, questions: impl Iterator<Item = &'a Question>) -> BTreeSet<Vec<u16>> {
-        let held = Held::facts(&self.facts);
-        questions.flat_map(|question| held.answers(question)).collect()
+        first_reader(&self.facts, questions)
     }
+
+    /// Whether there is an answer that no member finds unless some term of its match goes to a lost tag.
+    pub fn needs_lost_tag(&self) -> bool {
+        let tagged: Vec<Fact> = self
+            .facts
+            .iter()
+            .filter(|fact| !lost_tags::holds_one(fact.terms()))
+            .copied()
+            .collect();
+        let members = self.accepted.members.iter().map(|member| &member.question);
+        !self.answers.is_subset(&first_reader(&tagged, members))
+    }
+}
+
+fn first_reader<'a>(facts: &[Fact], questions: impl Iterator<Item = &'a Question>) -> BTreeSet<Vec<u16>> {
+    let held = Held::facts(facts);
+    lost_tags::parted(questions.flat_map(|question| held.tuples(question)).collect()).0
 }

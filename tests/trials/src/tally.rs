@@ -19,6 +19,9 @@ pub struct Tally {
     beyond_member_0: u64,
     never_end: u64,
     need_merge: u64,
+    left_out: u64,
+    room_for_answers_only: u64,
+    need_lost_tag: u64,
     most_members: usize,
     most_answers: usize,
     pub differences: usize,
@@ -117,6 +120,8 @@ impl Tally {
         self.most_members = self.most_members.max(accepted.members.len());
         self.most_answers = self.most_answers.max(drawn.answers.len());
         self.never_end += u64::from(drawn.never_ends);
+        self.left_out += u64::from(!drawn.left_out.is_empty());
+        self.need_lost_tag += u64::from(drawn.needs_lost_tag());
         let by_union = drawn.from_facts(accepted.members.iter().map(|member| &member.question));
         if by_union != drawn.answers {
             let told = |tuples| format!("{tuples:?}");
@@ -170,6 +175,9 @@ impl Tally {
                 let outcomes: Vec<Outcome> = lengths(&drawn, chance).into_iter().map(|n| drawn.outcome(n)).collect();
                 self.met[14] += u64::from(outcomes.iter().any(|outcome| outcome.number == 14));
                 self.met[0] += 1;
+                let all = drawn.needed() + drawn.tuple() * drawn.left_out.len();
+                let tight = |one: &Outcome| one.number == 0 && one.count > 0 && one.list.len() < all;
+                self.room_for_answers_only += u64::from(outcomes.iter().any(tight));
                 for outcome in outcomes {
                     self.compare_answer(name, sheets, &outcome, chance);
                 }
@@ -210,6 +218,17 @@ impl Tally {
             self.need_merge,
             100,
         );
+        count("accepted, with a tuple left out for a lost tag", self.left_out, 300);
+        count(
+            "accepted, with answers and a list that has no room for the tuples left out too",
+            self.room_for_answers_only,
+            100,
+        );
+        count(
+            "accepted, with an answer that no member finds without a lost tag",
+            self.need_lost_tag,
+            100,
+        );
         println!("differences: {}", self.differences);
         enough && self.differences == 0
     }
@@ -218,7 +237,7 @@ impl Tally {
 /// Lengths of lists around the edge, multiples of a tuple and others.
 fn lengths(drawn: &Drawn, chance: &mut Chance) -> Vec<usize> {
     let needed = drawn.needed();
-    let tuple = 2 * drawn.accepted.question.answers.len();
+    let tuple = drawn.tuple();
     let mut lengths = vec![
         0,
         needed,

@@ -198,8 +198,8 @@ fn a_loop_is_matched_by_no_unnamed_thing() {
     let loop_ = question("", &[(P, "xx")]);
     closes_to(&rules, loop_.clone(), &[loop_.clone()]);
     let held = Held::rounds(&rules, &[Fact::Concept(A, 5)], 1, 100).expect("few things");
-    assert!(held.answers(&loop_).is_empty());
-    assert_eq!(held.answers(&question("", &[(P, "xy")])).len(), 1);
+    assert!(held.tuples(&loop_).is_empty());
+    assert_eq!(held.tuples(&question("", &[(P, "xy")])).len(), 1);
 }
 
 #[test]
@@ -276,7 +276,7 @@ fn rounds_that_never_end() {
     let chain = question("x", &[(P, "xy"), (P, "yz"), (P, "zw"), (P, "wv")]);
     let held = Held::rounds(&rules, &facts, 4, 1000).expect("one chain");
     assert!(held.never_end(&rules));
-    assert_eq!(held.answers(&chain), [vec![5]].into());
+    assert_eq!(held.tuples(&chain), [vec![5]].into());
     assert!(!Held::rounds(&rules[..1], &facts, 4, 1000)
         .expect("one thing")
         .never_end(&rules[..1]));
@@ -289,7 +289,7 @@ fn rounds_that_never_end() {
 #[test]
 fn objects_as_answers_need_no_fact() {
     let held = Held::facts(&[Fact::Role(P, 3, 4)]);
-    assert_eq!(held.answers(&question("9x9", &[(P, "xy")])), [vec![9, 3, 9]].into());
-    assert!(held.answers(&question("x", &[(P, "x9")])).is_empty());
-    assert_eq!(held.answers(&question("", &[(P, "34")])).len(), 1);
+    assert_eq!(held.tuples(&question("9x9", &[(P, "xy")])), [vec![9, 3, 9]].into());
+    assert!(held.tuples(&question("x", &[(P, "x9")])).is_empty());
+    assert_eq!(held.tuples(&question("", &[(P, "34")])).len(), 1);
 }

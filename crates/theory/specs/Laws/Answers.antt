@@ -103,9 +103,10 @@ unfolding answersOf
 answers-iff facts union safe t =
     let find : Member → List (List ℕ) = λ m. found facts (m .query) in (
       λ a. (let r = flatMap-found find union (inserted-mem Before insertTuple insertTuple-inserts (flatMap find union) a) in
-          (r .0, r .1, found-iff facts (r .0 .query) (safe (r .0) (r .1)) t .0 (r .2))),
-      λ r. mem-inserted Before insertTuple insertTuple-inserts
-          (flatMap-of find (r .1) (found-iff facts (r .0 .query) (safe (r .0) (r .1)) t .1 (r .2))),
+          let w = found-iff facts (r .0 .query) (safe (r .0) (r .1)) t .0 (r .2) in
+          (w .0, (r .0, r .1, w .1))),
+      λ (may, (m, k, w)). mem-inserted Before insertTuple insertTuple-inserts
+          (flatMap-of find k (found-iff facts (m .query) (safe m k) t .1 (may, w))),
     )
 
 -- 01: "ordered by first object, then the next, each tuple once"
@@ -117,8 +118,8 @@ answers-ascending facts union =
 -- more facts, no fewer answers
 more-facts : {facts facts′ : List Fact} → ((f : Fact) → f ∈ facts → f ∈ facts′) → (union : UCQ) (t : List ℕ) → FirstReader union facts t
     → FirstReader union facts′ t
-more-facts {facts} {facts′} g union t r =
-    (r .0, r .1, answer-more (Round [] facts zero) (Round [] facts′ zero) (λ a w. (w .0, g (w .0) (w .1), w .2)) (r .0 .query) t (r .2))
+more-facts {facts} {facts′} g union t (may, (m, k, r)) =
+    (may, (m, k, answer-more (Round [] facts zero) (Round [] facts′ zero) (λ a w. (w .0, g (w .0) (w .1), w .2)) (m .query) t r))
 
 -- nothing depends on the order or the repetition of the facts
 pub answers-same-facts : (facts facts′ : List Fact) (union : UCQ) → ((m : Member) → m ∈ union → Safe (m .query))

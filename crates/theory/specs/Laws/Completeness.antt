@@ -12,7 +12,7 @@ use lib.ListN.{length, set}
 use Rattle.theory.specs.Lists.{_∈_, At, Unrepeated}
 use Rattle.theory.specs.Syntax.{Term, var, Atom, Rule, Query, Member, UCQ, Fact, Thing, object, null, mapAtom, value, subst-term}
 use Rattle.theory.specs.Syntax.{rename}
-use Rattle.theory.specs.Chase.{Round, Answer, FirstReader}
+use Rattle.theory.specs.Chase.{Round, Answer, OfSomeMember}
 use Rattle.theory.specs.Rewriting.{substitute, changeAtom, mergeStep, StepTo}
 use Rattle.theory.specs.Renaming.{Alike}
 use Rattle.theory.specs.Union.{Accepted, noStep}
@@ -217,23 +217,23 @@ module _ (rules : List Rule) (facts : List Fact) where
                 let z : n ≡ zero = omega (arith, w₀ .1) in subst (λ k. HoldsIn h x k) z (w₀ .0))
           ]
 
-      found : ((x : Atom Term) → x ∈ m .query .atoms → HoldsIn h x zero) → FirstReader union facts tuple
+      found : ((x : Atom Term) → x ∈ m .query .atoms → HoldsIn h x zero) → OfSomeMember union facts tuple
       found all = (m, i, record { match = h; holds = all; sends = sends })
 
       -- nothing left to pay, or a lower cost
       next : (total : ℕ) → Budget (HoldsIn h) (m .query .atoms) total
-          → FirstReader union facts tuple ⊎ ((k : ℕ) × (k < total) × MemberMatched k)
+          → OfSomeMember union facts tuple ⊎ ((k : ℕ) × (k < total) × MemberMatched k)
       next total budget = elim (greatest-or-empty (HoldsIn h) (m .query .atoms) total budget) [
         | inl e ↦ inl (found (λ x j. absurd (List·Memᴰ·not-nil (subst (λ xs. x ∈ xs) e j))))
         | inr g ↦ from g
       ]
         where
-          from : Greatest (HoldsIn h) (m .query .atoms) total → FirstReader union facts tuple ⊎ ((k : ℕ) × (k < total) × MemberMatched k)
+          from : Greatest (HoldsIn h) (m .query .atoms) total → OfSomeMember union facts tuple ⊎ ((k : ℕ) × (k < total) × MemberMatched k)
           from (l, a, zero, rest, at, held, le, others) = inl (found (free l a rest at held others))
           from (l, a, suc n, rest, at, held, le, others) = inr (n + rest, omega arith, trade l a n rest at held others)
 
     -- paid down to nothing, in at most `limit` trades
-    pay : (limit total : ℕ) → total ≤ limit → MemberMatched total → FirstReader union facts tuple
+    pay : (limit total : ℕ) → total ≤ limit → MemberMatched total → OfSomeMember union facts tuple
     pay zero total le (m, i, w) =
         elim (next m i (w .match) (w .sends) total (w .cost)) [ inl found ↦ found | inr r ↦ absurd (omega (arith, r .1)) ]
     pay (suc limit) total le (m, i, w) =
@@ -243,7 +243,7 @@ module _ (rules : List Rule) (facts : List Fact) where
         ]
 
     -- an answer of the question in some round is one of some member in round 0
-    pub complete : (n : ℕ) → Answer (Round rules facts n) q₀ tuple → FirstReader union facts tuple
+    pub complete : (n : ℕ) → Answer (Round rules facts n) q₀ tuple → OfSomeMember union facts tuple
     complete n w =
         let total = length (q₀ .atoms) * n in
         pay total total (le-refl total) (

@@ -10,7 +10,7 @@ use lib.ListN.{length, getElem?, getD, length-append, List·getD-append}
 use lib.Seq.{getD-append-seam}
 use Rattle.theory.specs.Lists.{At, pick}
 use Rattle.theory.specs.Syntax.{Rule, Query, Member, UCQ, Fact}
-use Rattle.theory.specs.Chase.{Round, Answer, FirstReader}
+use Rattle.theory.specs.Chase.{Round, Answer, OfSomeMember}
 use Rattle.theory.specs.Renaming.{Alike}
 use Rattle.theory.specs.Union.{Accepted, Yields, depthsAfter, depth}
 use Rattle.theory.specs.Laws.Options.{T-eqb, pick-true, pick-false}
@@ -91,7 +91,7 @@ module _ (rules : List Rule) (q : Query) (union : UCQ) (accepted : Accepted rule
       (known-next known m below (ap (getElem? union) (omega arith) ∙ place 0))
 
   -- what a member finds in round 0 the question finds in round `depth union`
-  pub first-by-depth : (tuple : List ℕ) → FirstReader union facts tuple → Answer (Round rules facts (depth union)) q tuple
+  pub first-by-depth : (tuple : List ℕ) → OfSomeMember union facts tuple → Answer (Round rules facts (depth union)) q tuple
   unfolding depth
   first-by-depth tuple w =
       let at = mem-at (w .1) in
