@@ -38,10 +38,10 @@ OfSomeMember union facts tuple = (m : Member) × (m ∈ union) × Answer (Round 
 abbrev pub InSomeRound : List Rule → Query → List Fact → List ℕ → Type 0
 InSomeRound rules q facts tuple = (n : ℕ) × Answer (Round rules facts n) q tuple
 
--- The first reader takes the union and the facts alone, the second the question and the rounds. 02, T-01: "Neither reader then finds such
--- a tuple", one that holds a lost tag.
+-- The first reader has the union and the facts alone. 02, T-01: "Neither reader then finds such a tuple", one that holds a lost tag.
 abbrev pub FirstReader : UCQ → List Fact → List ℕ → Type 0
 FirstReader union facts tuple = Answerable tuple × OfSomeMember union facts tuple
 
+-- The second reader has rules, question and facts, and goes on from round to round.
 abbrev pub SecondReader : List Rule → Query → List Fact → List ℕ → Type 0
 SecondReader rules q facts tuple = Answerable tuple × InSomeRound rules q facts tuple

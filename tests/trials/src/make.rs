@@ -20,7 +20,7 @@ fn role(chance: &mut Chance) -> u16 {
     }
 }
 
-/// An object, at times at an edge; of 12 so many are lost tags, or beside them.
+/// An object, at times at an edge; lost tags, and what is beside them, have this weight against 12.
 fn object(lost: usize, chance: &mut Chance) -> u16 {
     match chance.weighed(&[9, 3, lost]) {
         0 => chance.from(0, 9) as u16,
