@@ -6,8 +6,12 @@ use std::ops::RangeInclusive;
 
 pub const LOST: RangeInclusive<u16> = 65_024..=65_535;
 
+pub fn is_lost(object: u16) -> bool {
+    LOST.contains(&object)
+}
+
 pub fn holds_one(objects: impl IntoIterator<Item = u16>) -> bool {
-    objects.into_iter().any(|object| LOST.contains(&object))
+    objects.into_iter().any(is_lost)
 }
 
 /// The answers among the tuples that are found, and the tuples that are left out.

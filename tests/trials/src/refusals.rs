@@ -149,6 +149,8 @@ pub struct Drawn {
     pub answers: BTreeSet<Vec<u16>>,
     /// Tuples that are no answers only because they hold a lost tag.
     pub left_out: BTreeSet<Vec<u16>>,
+    /// Answers of which every match of the question in the rounds sends some term to a lost tag.
+    by_lost_tags: BTreeSet<Vec<u16>>,
     pub never_ends: bool,
 }
 
@@ -159,7 +161,9 @@ pub fn draw(sheets: &Sheets, most: usize) -> Result<Option<Drawn>, u32> {
     let atoms = accepted.question.atoms.len();
     Ok(Held::rounds(&accepted.rules, &facts, atoms, most).map(|held| {
         let (answers, left_out) = lost_tags::parted(held.tuples(&accepted.question));
+        let otherwise = held.tuples_avoiding(&accepted.question, lost_tags::is_lost);
         Drawn {
+            by_lost_tags: answers.difference(&otherwise).cloned().collect(),
             answers,
             left_out,
             never_ends: held.never_end(&accepted.rules),
@@ -219,7 +223,8 @@ impl Drawn {
         first_reader(&self.facts, questions)
     }
 
-    /// Whether there is an answer that no member finds unless some term of its match goes to a lost tag.
+    /// Whether there is an answer every match of which sends some term to a lost tag: the question's in the rounds, and any member's in
+    /// the facts.
     pub fn needs_lost_tag(&self) -> bool {
         let tagged: Vec<Fact> = self
             .facts
@@ -228,7 +233,7 @@ impl Drawn {
             .copied()
             .collect();
         let members = self.accepted.members.iter().map(|member| &member.question);
-        !self.answers.is_subset(&first_reader(&tagged, members))
+        !self.by_lost_tags.is_subset(&first_reader(&tagged, members))
     }
 }
 

@@ -225,7 +225,7 @@ impl Tally {
             100,
         );
         count(
-            "accepted, with an answer that no member finds without a lost tag",
+            "accepted, with an answer every match of which uses a lost tag",
             self.need_lost_tag,
             100,
         );
