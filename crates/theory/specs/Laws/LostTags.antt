@@ -1,7 +1,7 @@
 -- What T-01 changes and what it leaves: which objects may stand in an answer, in 02's numbers; a tuple with a lost tag is found by neither
 -- reader, and every other exactly when it was before; a lost tag among the answer terms leaves a question without answers; and one without
 -- answer terms is as it was.
-use mathlib.Core.Path.{_≡_, ap, sym, subst}
+use mathlib.Core.Path.{_≡_, subst}
 use mathlib.Core.Logic.{_⊎_, inl, inr, _↔_}
 use Prim.Native.Nat.{ℕ, _≤_, _<_}
 use native.Mathlib.Omega.{arith}
