@@ -10,11 +10,15 @@ pub mod library;
 pub mod limits;
 pub mod lost_tags;
 pub mod make;
+pub mod many_members;
 pub mod matches;
 pub mod refusals;
 pub mod rewrite;
 pub mod sheets;
+pub mod unions;
 pub mod write;
 
+#[cfg(test)]
+mod union_vectors;
 #[cfg(test)]
 mod vectors;

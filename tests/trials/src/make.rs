@@ -214,14 +214,14 @@ fn facts(names: &Names, many: usize, chance: &mut Chance) -> Vec<Fact> {
 }
 
 /// Facts that a member's question matches.
-fn matched_by(question: &Question, names: &Names, chance: &mut Chance) -> Vec<Fact> {
+pub fn matched_by(question: &Question, objects: &[u16], chance: &mut Chance) -> Vec<Fact> {
     let distinct = chance.one_in(2);
     let one_lost_in = chance.of(&[2, 4, 1000]);
     let images: Vec<u16> = (0..32)
         .map(|x| match distinct {
             true if chance.one_in(one_lost_in) => 65_024 + x,
             true => 40 + x,
-            false => chance.of(&names.objects),
+            false => chance.of(objects),
         })
         .collect();
     let image = |term: Term| match term {
@@ -252,7 +252,7 @@ pub fn some_facts(names: &Names, members: &[(Step, Question)], chance: &mut Chan
         return facts(names, many, chance);
     }
     let mut all = facts(names, chance.below(4), chance);
-    all.extend(matched_by(&members[chance.of(&later)].1, names, chance));
+    all.extend(matched_by(&members[chance.of(&later)].1, &names.objects, chance));
     chance.shuffle(&mut all);
     all
 }
@@ -287,14 +287,20 @@ pub fn union(question: &Question, rules: &[Rule], most: usize, chance: &mut Chan
     rewrite::closure(question, rules, true, most, &mut pick, &mut |q| dressed(q, chance))
 }
 
+/// Names, rules over them and a question.
+pub fn plan(chance: &mut Chance) -> (Names, Vec<Rule>, Question) {
+    let names = names(chance);
+    let (rules, question) = match chance.one_in(5) {
+        true => forked(&names, chance),
+        false => (rules(&names, chance), question(&names, chance)),
+    };
+    (names, rules, question)
+}
+
 /// Sheets that are accepted.
 pub fn draft(chance: &mut Chance) -> Draft {
     loop {
-        let names = names(chance);
-        let (rules, question) = match chance.one_in(5) {
-            true => forked(&names, chance),
-            false => (rules(&names, chance), question(&names, chance)),
-        };
+        let (names, rules, question) = plan(chance);
         let most = if chance.one_in(40) { MOST_MEMBERS } else { 48 };
         if let Some(members) = union(&question, &rules, most, chance) {
             let facts = some_facts(&names, &members, chance);

@@ -173,6 +173,12 @@ pub fn draw(sheets: &Sheets, most: usize) -> Result<Option<Drawn>, u32> {
     }))
 }
 
+/// The answers by rounds, from rules, facts and question alone; none if that takes more than `most` things.
+pub fn by_rounds(rules: &[Rule], question: &Question, facts: &[Fact], most: usize) -> Option<BTreeSet<Vec<u16>>> {
+    let held = Held::rounds(rules, facts, question.atoms.len(), most)?;
+    Some(lost_tags::parted(held.tuples(question)).0)
+}
+
 #[derive(Clone, Debug, PartialEq, Eq)]
 pub struct Outcome {
     pub number: u32,
@@ -188,6 +194,21 @@ pub fn refused(number: u32, length: usize) -> Outcome {
     }
 }
 
+/// Number, count and all bytes of a list of this length: refusal 14, or the answers ascending and zeros after them.
+pub fn listed(answers: &BTreeSet<Vec<u16>>, length: usize) -> Outcome {
+    let objects = answers.iter().flatten();
+    let mut list: Vec<u8> = objects.flat_map(|object| object.to_be_bytes()).collect();
+    if length < list.len() {
+        return refused(14, length);
+    }
+    list.resize(length, 0);
+    Outcome {
+        number: 0,
+        count: answers.len() as u64,
+        list,
+    }
+}
+
 impl Drawn {
     /// Bytes that a tuple takes.
     pub fn tuple(&self) -> usize {
@@ -199,23 +220,9 @@ impl Drawn {
         self.tuple() * self.answers.len()
     }
 
-    /// Number, count and all bytes of a list of this length: refusal 14, or the answers ascending and zeros after them.
+    /// Number, count and all bytes of a list of this length.
     pub fn outcome(&self, length: usize) -> Outcome {
-        if length < self.needed() {
-            return refused(14, length);
-        }
-        let mut list: Vec<u8> = self
-            .answers
-            .iter()
-            .flatten()
-            .flat_map(|object| object.to_be_bytes())
-            .collect();
-        list.resize(length, 0);
-        Outcome {
-            number: 0,
-            count: self.answers.len() as u64,
-            list,
-        }
+        listed(&self.answers, length)
     }
 
     /// What the first reader finds with these questions: the tuples without a lost tag that are answers of one of them in round 0.

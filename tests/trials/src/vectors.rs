@@ -11,18 +11,18 @@ use crate::sheets::{self, Atom, Description, Fact, Question, Rule, Term};
 use crate::write;
 use Description::{Concept, From, To};
 
-const A: u16 = 1;
-const B: u16 = 2;
+pub const A: u16 = 1;
+pub const B: u16 = 2;
 // one role without a partner, one that is its own, two of the table's pairs
-const P: u16 = 16;
+pub const P: u16 = 16;
 const R: u16 = 8;
 const S: u16 = 0;
 
-fn bears(left: Description, right: Description) -> Rule {
+pub fn bears(left: Description, right: Description) -> Rule {
     Rule::Bears(left, right)
 }
 
-fn implies(left: u16, right: u16) -> Rule {
+pub fn implies(left: u16, right: u16) -> Rule {
     Rule::Implies {
         left,
         right,
@@ -46,7 +46,7 @@ fn term(c: char) -> Term {
 }
 
 /// A question such as `question("x", &[(P, "xy"), (A, "y")])`: one letter after a number is a concept, two are a role.
-fn question(answers: &str, atoms: &[(u16, &str)]) -> Question {
+pub fn question(answers: &str, atoms: &[(u16, &str)]) -> Question {
     let atom = |&(number, terms): &(u16, &str)| {
         let terms: Vec<Term> = terms.chars().map(term).collect();
         match terms[..] {

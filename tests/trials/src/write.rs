@@ -1,4 +1,5 @@
-//! Packing sheets, the counterpart of reading. Where a role has a partner, chance decides which of the two is written.
+//! Packing sheets, the counterpart of reading. Where a role has a partner, chance decides which of the two is written, but for a union
+//! as the register writes it.
 
 use crate::chance::Chance;
 use crate::refusals::Sheets;
@@ -77,7 +78,8 @@ pub fn rules(rules: &[Rule], chance: &mut Chance) -> Vec<u8> {
     packer.bytes
 }
 
-fn put_question(packer: &mut Packer, question: &Question, chance: &mut Chance) {
+/// A question, its roles written as `spell` says.
+fn put_question(packer: &mut Packer, question: &Question, spell: &mut dyn FnMut(u16) -> (u32, bool)) {
     packer.put(4, question.answers.len() as u32);
     packer.put(4, question.atoms.len() as u32);
     for &answer in &question.answers {
@@ -93,7 +95,7 @@ fn put_question(packer: &mut Packer, question: &Question, chance: &mut Chance) {
                 packer.put(17, 0);
             }
             Atom::Role(p, t, u) => {
-                let (role, exchanged) = spelled(p, chance);
+                let (role, exchanged) = spell(p);
                 let (first, second) = if exchanged { (u, t) } else { (t, u) };
                 packer.put(2, 2);
                 packer.put(12, role);
@@ -106,11 +108,20 @@ fn put_question(packer: &mut Packer, question: &Question, chance: &mut Chance) {
 
 pub fn question(question: &Question, chance: &mut Chance) -> Vec<u8> {
     let mut packer = Packer::default();
-    put_question(&mut packer, question, chance);
+    put_question(&mut packer, question, &mut |role| spelled(role, chance));
     packer.bytes
 }
 
 pub fn union(members: &[(Step, Question)], chance: &mut Chance) -> Vec<u8> {
+    union_spelled(members, &mut |role| spelled(role, chance))
+}
+
+/// A union with roles as read: of two partners the lower.
+pub fn union_as_read(members: &[(Step, Question)]) -> Vec<u8> {
+    union_spelled(members, &mut |role| (u32::from(role), false))
+}
+
+fn union_spelled(members: &[(Step, Question)], spell: &mut dyn FnMut(u16) -> (u32, bool)) -> Vec<u8> {
     let mut packer = Packer::default();
     packer.put(16, members.len() as u32);
     for (step, question) in members {
@@ -118,7 +129,7 @@ pub fn union(members: &[(Step, Question)], chance: &mut Chance) -> Vec<u8> {
         packer.put(10, u32::from(step.parent));
         packer.put(4, u32::from(step.atom));
         packer.put(16, u32::from(step.other));
-        put_question(&mut packer, question, chance);
+        put_question(&mut packer, question, spell);
     }
     packer.bytes
 }
