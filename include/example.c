@@ -1,5 +1,6 @@
 /* 01's card K1 through the C header: each concept 1 is driven by something; who is driven? Built and run by tests/program/c_example. */
 #include <stdio.h>
+#include <string.h>
 #include "takwishan.h"
 
 static const uint8_t rules[] = {0x10, 0x00, 0x60, 0x00};
@@ -26,6 +27,20 @@ static void draw(uint8_t *list, size_t length)
         printf("%u\n", list[2 * i] * 256u + list[2 * i + 1]);
 }
 
+/* Writes the union into a sheet of so many bytes and says what came: it is the one above. */
+static void write_union(size_t length)
+{
+    static uint8_t sheet[TAKWISHAN_MOST_UNION_BYTES];
+    struct takwishan_written written = takwishan_write(rules, sizeof rules, question, sizeof question, sheet, length);
+    if (written.number != TAKWISHAN_ACCEPTED) {
+        printf("refused %u\n", (unsigned)written.number);
+        return;
+    }
+    int same = written.length == sizeof union_sheet && memcmp(sheet, union_sheet, sizeof union_sheet) == 0;
+    printf("written %llu, %llu bytes, %s\n", (unsigned long long)written.count, (unsigned long long)written.length,
+           same ? "the union above" : "another union");
+}
+
 int main(void)
 {
     uint8_t list[4];
@@ -36,5 +51,7 @@ int main(void)
     printf("member 1 is %zu bytes from byte %zu\n", part.length, part.start);
     part = takwishan_member(union_sheet, sizeof union_sheet, 2);
     printf("member 2 is %zu bytes from byte %zu\n", part.length, part.start);
+    write_union(TAKWISHAN_MOST_UNION_BYTES);
+    write_union(sizeof union_sheet - 1);
     return 0;
 }

@@ -1,11 +1,11 @@
 /*
- * Takwishan for C: a union of conjunctive queries checked against rules and question, answers drawn with it from facts, and a member of a
- * union shown. Link with target/lib/libtakwishan.a, which `make lib` writes (x86-64 Linux).
+ * Takwishan for C: a union of conjunctive queries written for rules and question, or checked against them, answers drawn with it from
+ * facts, and a member of a union shown. Link with target/lib/libtakwishan.a, which `make lib` writes (x86-64 Linux).
  *
  * A sheet is a pointer and a length in bytes. The pointer must not be null and must be good for reading so many bytes, also where the
- * length is 0; nothing may write them during the call. The list must be good for writing and must not overlap a sheet. Every sheet of
- * every length and every content is answered: none of these functions fails, allocates, or keeps a pointer. They need less than half a
- * megabyte of stack and may be called from several threads at once.
+ * length is 0; nothing may write them during the call. What is lent for writing, the list or the union's sheet, must be good for writing
+ * and must not overlap a sheet that is read. Every sheet of every length and every content is answered: none of these functions fails,
+ * allocates, or keeps a pointer. They need less than half a megabyte of stack and may be called from several threads at once.
  */
 #ifndef TAKWISHAN_H
 #define TAKWISHAN_H
@@ -78,13 +78,24 @@ enum takwishan_number {
     /* A fact has a set bit that must be zero. */
     TAKWISHAN_FACT_MALFORMED = 13,
     /* The answer list is shorter than 2 x terms x answers bytes. (Tuples that are left out for a lost tag take no room.) */
-    TAKWISHAN_LIST_TOO_SHORT = 14
+    TAKWISHAN_LIST_TOO_SHORT = 14,
+    /* More than 512 unlike questions. (They are counted from the question on, by zero or more steps; only writing a union meets this.) */
+    TAKWISHAN_TOO_MANY_QUESTIONS = 15,
+    /* The lent sheet is shorter than the union. (Only writing a union meets this.) */
+    TAKWISHAN_SHEET_TOO_SHORT = 16
 };
 
 /* What a call that draws answers gives beside the list. */
 struct takwishan_answers {
     uint32_t number; /* 0, or the number of the refusal */
     uint64_t count;  /* how many answers the list has; 0 on a refusal */
+};
+
+/* What a call that writes a union gives beside the sheet. */
+struct takwishan_written {
+    uint32_t number; /* 0, or the number of the refusal */
+    uint64_t count;  /* how many members the union has; 0 on a refusal */
+    uint64_t length; /* how many bytes of the sheet the union takes; 0 on a refusal */
 };
 
 /* Where a part of a sheet begins, and how many bytes it has. */
@@ -106,6 +117,16 @@ uint32_t takwishan_check(const uint8_t *rules, size_t rules_length, const uint8_
 struct takwishan_answers takwishan_answer(const uint8_t *rules, size_t rules_length, const uint8_t *question, size_t question_length,
                                           const uint8_t *union_sheet, size_t union_length, const uint8_t *facts, size_t facts_length,
                                           uint8_t *list, size_t list_length);
+
+/*
+ * Writes the union of rules and question into the lent sheet. Where the number is 0, the first `length` bytes of the sheet are a union of
+ * `count` members that is accepted for these rules and this question. The bytes after them are zero and no part of it: hand on `length`,
+ * not the length that was lent. Members are taken in index order; for each, atoms in order with rules in order, then pairs of atoms by the
+ * earlier and then the later one; a result alike to no member so far is appended. On a refusal of 1 to 5, 15 or 16 count and length are 0
+ * and the whole sheet is zeros. 15 comes before 16 whatever length was lent; TAKWISHAN_MOST_UNION_BYTES are enough for every union.
+ */
+struct takwishan_written takwishan_write(const uint8_t *rules, size_t rules_length, const uint8_t *question, size_t question_length,
+                                         uint8_t *sheet, size_t sheet_length);
 
 /* The part of a union sheet that holds the question of a member, counted from 0. Its length is 0, and its start too, if the sheet meets 6
  * on its own (term counts being compared with member 0's) or has no such member. */

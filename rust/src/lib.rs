@@ -1,8 +1,8 @@
-//! Takwishan for Rust: a union of conjunctive queries checked against rules and question, answers drawn with it from facts, and a member of
-//! a union shown.
+//! Takwishan for Rust: a union of conjunctive queries written for rules and question, or checked against them, answers drawn with it from
+//! facts, and a member of a union shown.
 //!
 //! The work is done by a proved library (`make lib`); this crate only hands slices over. Every sheet of every length and
-//! content is answered: nothing panics, allocates or blocks. A call needs less than half a megabyte of stack.
+//! content is answered: nothing panics or blocks, and only [`write()`] allocates. A call needs less than half a megabyte of stack.
 //!
 //! Card K1 of document 01: each concept 1 is driven by something; who is driven?
 //!
@@ -30,7 +30,7 @@ pub mod limits;
 mod linked;
 mod refusal;
 
-pub use linked::Answers;
+pub use linked::{Answers, WriteOutcome};
 pub use refusal::Refusal;
 
 /// The version of wrapper, header and library; CHANGELOG.md says what changed.
@@ -58,6 +58,71 @@ pub fn outcome(rules: &[u8], question: &[u8], union: &[u8], facts: &[u8], list: 
     linked::answer(rules, question, union, facts, list)
 }
 
+/// Writes the union of rules and question, and returns its bytes: a sheet for [`check`] and [`answer`].
+///
+/// Members are taken in index order; for each, atoms in order with rules in order, then pairs of atoms by the earlier and then the later
+/// one; a result alike to no member so far is appended, with its step and as the step leaves it. Roles are written as they are read: of two
+/// partners the lower. The bytes are fixed by this, and the union is one that is accepted. It is refused with the first of 1 to 5 and 15
+/// that applies; never with 16, since there is room for every union.
+///
+/// ```
+/// let rules = [0x10, 0x00, 0x60, 0x00]; // each concept 1 is driven by something
+/// let question = [0x11, 0x00, 0x00, 0x00, 0x80, 0x00, 0x00, 0x02, 0x00, 0x00]; // who is driven?
+/// let union = takwishan::write(&rules, &question)?;
+/// takwishan::check(&rules, &question, &union)?;
+///
+/// let facts = [0x00, 0x01, 0x00, 0x07, 0x00, 0x00]; // 7 is a concept 1
+/// let mut list = [0; 2];
+/// assert_eq!(takwishan::answer(&rules, &question, &union, &facts, &mut list)?, 1);
+/// assert_eq!(list, [0, 7]);
+/// # Ok::<(), takwishan::Refusal>(())
+/// ```
+pub fn write(rules: &[u8], question: &[u8]) -> Result<Vec<u8>, Refusal> {
+    let mut sheet = vec![0; limits::MOST_UNION_BYTES];
+    let written = write_into(rules, question, &mut sheet)?;
+    sheet.truncate(written.length);
+    sheet.shrink_to_fit();
+    Ok(sheet)
+}
+
+/// What was written into a lent sheet.
+#[derive(Clone, Copy, Debug, PartialEq, Eq)]
+pub struct Written {
+    /// How many members the union has, 1 to 512.
+    pub count: usize,
+    /// How many bytes of the sheet it takes, from the first; those after it are zero, and no part of the union.
+    pub length: usize,
+}
+
+/// The same into a lent sheet, of any length: [`limits::MOST_UNION_BYTES`] are enough for every union.
+///
+/// The first `length` bytes of the sheet are the union, the bytes after them are zero. On a refusal of 1 to 5, 15 and 16 the whole sheet is
+/// zeros. 15 comes before 16 whatever the sheet's length.
+///
+/// ```
+/// let rules = [0x10, 0x00, 0x60, 0x00];
+/// let question = [0x11, 0x00, 0x00, 0x00, 0x80, 0x00, 0x00, 0x02, 0x00, 0x00];
+/// let mut sheet = [0; takwishan::limits::MOST_UNION_BYTES];
+/// let written = takwishan::write_into(&rules, &question, &mut sheet)?;
+/// assert_eq!((written.count, written.length), (2, 30));
+/// takwishan::check(&rules, &question, &sheet[..written.length])?;
+/// # Ok::<(), takwishan::Refusal>(())
+/// ```
+pub fn write_into(rules: &[u8], question: &[u8], sheet: &mut [u8]) -> Result<Written, Refusal> {
+    let written = write_outcome(rules, question, sheet);
+    given(written.number)?;
+    let size = |number| usize::try_from(number).expect("the union lies in the sheet");
+    Ok(Written {
+        count: size(written.count),
+        length: size(written.length),
+    })
+}
+
+/// The same as the library gives it: the number, 0 or the refusal's, and count and length, 0 on a refusal.
+pub fn write_outcome(rules: &[u8], question: &[u8], sheet: &mut [u8]) -> WriteOutcome {
+    linked::write(rules, question, sheet)
+}
+
 /// The part of a union sheet that holds the question of member `m`, counted from 0. It is empty if the sheet meets 6 on its own (term
 /// counts being compared with member 0's) or has no such member.
 pub fn member(union: &[u8], m: usize) -> &[u8] {
@@ -69,6 +134,6 @@ pub fn member(union: &[u8], m: usize) -> &[u8] {
 fn given(number: u32) -> Result<(), Refusal> {
     match number {
         0 => Ok(()),
-        n => Err(Refusal::from_number(n).expect("the library gives no number above 14")),
+        n => Err(Refusal::from_number(n).expect("the library gives no number above 16")),
     }
 }

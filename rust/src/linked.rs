@@ -10,6 +10,18 @@ pub struct Answers {
     pub count: u64,
 }
 
+/// What writing gives beside the sheet.
+#[repr(C)]
+#[derive(Clone, Copy, Debug, PartialEq, Eq)]
+pub struct WriteOutcome {
+    /// 0, or the number of the refusal.
+    pub number: u32,
+    /// How many members the union has; 0 on a refusal.
+    pub count: u64,
+    /// How many bytes of the sheet the union takes; 0 on a refusal.
+    pub length: u64,
+}
+
 /// Where a part of a sheet begins, and how many bytes it has.
 #[repr(C)]
 pub struct Part {
@@ -39,6 +51,15 @@ extern "C" {
         list: *mut u8,
         list_length: usize,
     ) -> Answers;
+
+    fn takwishan_write(
+        rules: *const u8,
+        rules_length: usize,
+        question: *const u8,
+        question_length: usize,
+        sheet: *mut u8,
+        sheet_length: usize,
+    ) -> WriteOutcome;
 
     fn takwishan_member(union: *const u8, union_length: usize, member: usize) -> Part;
 }
@@ -72,6 +93,21 @@ pub fn answer(rules: &[u8], question: &[u8], union: &[u8], facts: &[u8], list: &
             facts.len(),
             list.as_mut_ptr(),
             list.len(),
+        )
+    }
+}
+
+pub fn write(rules: &[u8], question: &[u8], sheet: &mut [u8]) -> WriteOutcome {
+    // Safety: each pointer is that of a slice of the length beside it. The function writes only the sheet, which is borrowed for itself
+    // alone.
+    unsafe {
+        takwishan_write(
+            rules.as_ptr(),
+            rules.len(),
+            question.as_ptr(),
+            question.len(),
+            sheet.as_mut_ptr(),
+            sheet.len(),
         )
     }
 }

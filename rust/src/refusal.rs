@@ -1,21 +1,21 @@
-//! What the desk turns back: document 01's list.
+//! What the desk turns back: document 01's list, and what document 02 adds to it.
 use std::fmt;
 
-/// The list in one place: a case, its number and 01's sentence.
+/// The list in one place: a case, its number and the sentence of 01 or 02.
 macro_rules! refusals {
     ($($case:ident = $number:literal: $sentence:literal,)*) => {
         /// Why a call was refused. The first entry whose condition holds decides, for the earlier ones not holding. Checking a union uses
-        /// 1 to 11, drawing answers all.
+        /// 1 to 11, drawing answers 1 to 14, writing a union 1 to 5, then 15 and 16.
         #[derive(Clone, Copy, Debug, PartialEq, Eq, PartialOrd, Ord, Hash)]
         pub enum Refusal {
             $(#[doc = concat!(stringify!($number), ": ", $sentence)] $case = $number,)*
         }
 
         impl Refusal {
-            /// Every refusal, in the order of the list.
+            /// Every refusal, in the order of their numbers.
             pub const ALL: &'static [Refusal] = &[$(Refusal::$case,)*];
 
-            /// 01's sentence.
+            /// The sentence of 01 or 02.
             pub fn sentence(self) -> &'static str {
                 match self {
                     $(Refusal::$case => $sentence,)*
@@ -41,10 +41,12 @@ refusals! {
     FactSheetLength = 12: "The fact sheet's length is no multiple of 6 or exceeds 60,000 bytes.",
     FactMalformed = 13: "A fact has a set bit that must be zero.",
     ListTooShort = 14: "The answer list is shorter than 2 × terms × answers bytes.",
+    TooManyQuestions = 15: "More than 512 unlike questions.",
+    SheetTooShort = 16: "The lent sheet is shorter than the union.",
 }
 
 impl Refusal {
-    /// Its number on the list, 1 to 14.
+    /// Its number on the list, 1 to 16.
     pub fn number(self) -> u32 {
         self as u32
     }
@@ -75,7 +77,7 @@ mod tests {
             assert_eq!(Refusal::from_number(refusal.number()), Some(*refusal));
         }
         assert_eq!(Refusal::from_number(0), None);
-        assert_eq!(Refusal::from_number(15), None);
+        assert_eq!(Refusal::from_number(17), None);
     }
 
     #[test]

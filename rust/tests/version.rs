@@ -34,3 +34,25 @@ fn wrapper_and_header_have_the_same_lost_tags() {
     assert_eq!(first, tags.start().to_string());
     assert_eq!(last, Some(tags.end().to_string().as_str()));
 }
+
+/// A case's name as the header has it: `RuleSheetLength` is `RULE_SHEET_LENGTH`.
+fn in_c(refusal: takwishan::Refusal) -> String {
+    let mut name = String::new();
+    for letter in format!("{refusal:?}").chars() {
+        if letter.is_uppercase() {
+            name.push('_');
+        }
+        name.extend(letter.to_uppercase());
+    }
+    name
+}
+
+#[test]
+fn wrapper_and_header_have_the_same_refusals() {
+    let header = include_str!("../../include/takwishan.h");
+    for &refusal in takwishan::Refusal::ALL {
+        let line = format!("    TAKWISHAN{} = {}", in_c(refusal), refusal.number());
+        let stands = |other: &str| other.trim_end_matches(',') == line;
+        assert!(header.lines().any(stands), "the header lacks {line}");
+    }
+}

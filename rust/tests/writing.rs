@@ -1,0 +1,136 @@
+//! Unions that the register writes (02's T-02), through the wrapper.
+use takwishan::limits::MOST_UNION_BYTES;
+use takwishan::{answer, check, member, write, write_into, write_outcome, Refusal, Written};
+use vectors::{case, Case};
+
+/// Writes into a sheet that was full of other bytes.
+fn written(rules: &[u8], question: &[u8], length: usize) -> (Result<Written, Refusal>, Vec<u8>) {
+    let mut sheet = vec![0xff; length];
+    let given = write_into(rules, question, &mut sheet);
+    (given, sheet)
+}
+
+/// So many concepts below concept 0, and the question for concept 0: one member more than rules.
+fn taxonomy(below: u16) -> (Vec<u8>, Vec<u8>) {
+    let rule = |name: u16| (1 << 28 | u32::from(name) << 14).to_be_bytes();
+    let rules = (1..=below).flat_map(rule).collect();
+    let question = vec![0x11, 0, 0, 0, 0, 0, 0, 0, 0, 0];
+    (rules, question)
+}
+
+#[test]
+fn k1_is_written_as_it_is_stored() {
+    let k1 = case("K1");
+    assert_eq!(write(&k1.rules, &k1.question), Ok(k1.union.clone()));
+    let size = Written { count: 2, length: 30 };
+    assert_eq!(written(&k1.rules, &k1.question, 30), (Ok(size), k1.union));
+}
+
+#[test]
+fn bytes_after_the_union_are_zero() {
+    let k1 = case("K1");
+    for length in [31, 100, MOST_UNION_BYTES, MOST_UNION_BYTES + 1] {
+        let (given, sheet) = written(&k1.rules, &k1.question, length);
+        assert_eq!(given, Ok(Written { count: 2, length: 30 }));
+        assert_eq!(sheet[..30], k1.union);
+        assert_eq!(sheet[30..], vec![0; length - 30]);
+    }
+}
+
+#[test]
+fn a_sheet_one_byte_short_is_16() {
+    let k1 = case("K1");
+    for length in [0, 1, 29] {
+        let refused = (Err(Refusal::SheetTooShort), vec![0; length]);
+        assert_eq!(written(&k1.rules, &k1.question, length), refused);
+    }
+}
+
+#[test]
+fn nothing_is_written_beside_the_sheet() {
+    let k1 = case("K1");
+    let mut lent = [0xff; 40];
+    assert!(write_into(&k1.rules, &k1.question, &mut lent[4..35]).is_ok());
+    assert_eq!((&lent[..4], &lent[35..]), (&[0xff; 4][..], &[0xff; 5][..]));
+    assert_eq!((&lent[4..34], lent[34]), (&k1.union[..], 0));
+}
+
+/// Rules and question are refused as they are elsewhere, and before 15 and 16.
+#[test]
+fn rules_and_question_are_judged_first() {
+    let k1 = case("K1");
+    let (many, _) = taxonomy(512);
+    let nowhere = [0x11, 0x00, 0x00, 0x05, 0x80, 0x00, 0x00, 0x02, 0x00, 0x00];
+    let refusals = [
+        (&k1.rules[..3], &k1.question[..], Refusal::RuleSheetLength),
+        (&[0xff; 4], &k1.question, Refusal::NoSuchRule),
+        (&many, &[], Refusal::QuestionMalformed),
+        (&many, &nowhere, Refusal::AnswerVariableNowhere),
+        (&many, &case("K7").question, Refusal::AtomTwice),
+    ];
+    for (rules, question, refusal) in refusals {
+        for length in [0, 1, 50] {
+            assert_eq!(written(rules, question, length), (Err(refusal), vec![0; length]));
+        }
+        assert_eq!(write(rules, question), Err(refusal));
+        let outcome = write_outcome(rules, question, &mut [0xff; 7]);
+        let number = refusal.number();
+        assert_eq!((outcome.number, outcome.count, outcome.length), (number, 0, 0));
+    }
+}
+
+#[test]
+fn no_more_than_512_members() {
+    let (rules, question) = taxonomy(511);
+    let union = write(&rules, &question).expect("512 members");
+    assert_eq!(union.len(), 2 + 512 * 14);
+    assert_eq!(union[..2], 512u16.to_be_bytes());
+    assert_eq!(check(&rules, &question, &union), Ok(()));
+    // members in the order of the rules: member 511 is concept 511 by rule 510
+    assert_eq!(union[2 + 511 * 14..][..4], (1u32 << 30 | 510).to_be_bytes());
+    assert_eq!(member(&union, 511)[4..], [0x07, 0xfc, 0, 0, 0, 0]);
+    let (rules, question) = taxonomy(512);
+    assert_eq!(write(&rules, &question), Err(Refusal::TooManyQuestions));
+    // 15 comes before 16, whatever the length
+    for length in [0, 1, MOST_UNION_BYTES] {
+        let refused = (Err(Refusal::TooManyQuestions), vec![0; length]);
+        assert_eq!(written(&rules, &question, length), refused);
+    }
+}
+
+/// What is drawn with a union that was written: as with the card's own.
+fn drawn(case: &Case, union: &[u8]) -> (Result<usize, Refusal>, Vec<u8>) {
+    let mut list = vec![0xff; case.list];
+    let count = answer(&case.rules, &case.question, union, &case.facts, &mut list);
+    (count, list)
+}
+
+#[test]
+fn cards_draw_the_same_with_the_union_written() {
+    for case in vectors::all() {
+        let name = &case.name;
+        match write(&case.rules, &case.question) {
+            Ok(union) => {
+                assert_eq!(check(&case.rules, &case.question, &union), Ok(()), "check {name}");
+                if case.checked() == 0 {
+                    assert_eq!(drawn(&case, &union), drawn(&case, &case.union), "answer {name}");
+                }
+            }
+            Err(refusal) => assert_eq!(refusal.number(), case.checked(), "write {name}"),
+        }
+    }
+}
+
+/// The largest union, in a thread with half a megabyte of stack.
+#[test]
+fn little_stack_is_enough() {
+    let run = || {
+        let (rules, question) = taxonomy(511);
+        write(&rules, &question).map(|union| union.len())
+    };
+    let thread = std::thread::Builder::new()
+        .stack_size(512 * 1024)
+        .spawn(run)
+        .expect("a thread");
+    assert_eq!(thread.join().expect("no overflow"), Ok(2 + 512 * 14));
+}
