@@ -19,3 +19,9 @@ pub fn member(sheet: &[u8], m: usize) -> (usize, usize) {
     let part = takwishan::member(sheet, m);
     (part.as_ptr() as usize - sheet.as_ptr() as usize, part.len())
 }
+
+/// Number, count of members and length of the union that writing returns; the sheet is written.
+pub fn write(rules: &[u8], question: &[u8], sheet: &mut [u8]) -> (u32, u64, u64) {
+    let written = takwishan::write_outcome(rules, question, sheet);
+    (written.number, written.count, written.length)
+}

@@ -1,17 +1,21 @@
 //! Compares the library with the second implementation on sheets by chance, sound and damaged. Fails if they differ anywhere, or
 //! if too few of the cases were of the kinds that matter. Arguments: seed and number of cases.
 
+mod lent;
 mod tally;
+mod writing;
 
 use std::process::ExitCode;
 use tally::Tally;
 use trials::chance::Chance;
 use trials::refusals::Sheets;
-use trials::write::Draft;
-use trials::{cards, damage, damage_bytes, limits, make};
+use trials::write::{self, Draft};
+use trials::{cards, damage, damage_bytes, limits, make, many_members};
 
 const SEED: u64 = 20_070_713;
 const CASES: u64 = 24_000;
+/// One in so many cases has a second one beside it: rules and a question that lead to many unlike questions.
+const ONE_OF_MANY_IN: u64 = 100;
 /// Differences that are printed before the run is given up.
 const MOST_DIFFERENCES: usize = 10;
 
@@ -49,6 +53,22 @@ fn sheets_of(case: u64, chance: &mut Chance) -> Sheets {
     sheets
 }
 
+/// Rules and a question that lead to many unlike questions; at times damaged, so that 1 to 5 come before 15. There are no facts, or
+/// rather a sheet of them that is refused, so that facts are made for the union that is written.
+fn sheets_of_many(turn: u64, chance: &mut Chance) -> Sheets {
+    let (rules, question) = many_members::plan(turn, chance);
+    let mut sheets = Sheets {
+        rules: write::rules(&rules, chance),
+        question: write::question(&question, chance),
+        union: vec![],
+        facts: vec![0],
+    };
+    if chance.one_in(8) {
+        damage_bytes::bytes(chance.from(1, 3) as u32, &mut sheets, chance);
+    }
+    sheets
+}
+
 fn run(seed: u64, cases: u64) -> bool {
     let mut tally = Tally::default();
     let mut chance = Chance::new(seed);
@@ -56,6 +76,7 @@ fn run(seed: u64, cases: u64) -> bool {
         tally.compare_check(&card.name, &card.sheets);
         tally.compare_answer(&card.name, &card.sheets, &card.expected, &mut chance);
         tally.compare_members(&card.name, &card.sheets, &mut chance);
+        tally.compare_write(&card.name, &card.sheets, &mut chance);
     }
     println!("seed {seed}, {cases} cases");
     for case in 0..cases {
@@ -63,6 +84,11 @@ fn run(seed: u64, cases: u64) -> bool {
         let mut chance = Chance::new(seed.wrapping_mul(1_000_003).wrapping_add(case));
         let sheets = sheets_of(case, &mut chance);
         tally.compare(&format!("case {case}"), &sheets, &mut chance);
+        tally.compare_write(&format!("case {case}"), &sheets, &mut chance);
+        if case % ONE_OF_MANY_IN == 0 {
+            let sheets = sheets_of_many(case / ONE_OF_MANY_IN, &mut chance);
+            tally.compare_write(&format!("case {case}, many members"), &sheets, &mut chance);
+        }
         if tally.differences >= MOST_DIFFERENCES {
             println!("given up after {} cases", case + 1);
             break;

@@ -1,5 +1,8 @@
 //! Calls the library and compares what it does with what the second implementation expects; counts what kinds of cases were met.
+//! Writing has a file of its own.
 
+use crate::lent::Lent;
+use crate::writing::Writings;
 use trials::chance::Chance;
 use trials::refusals::{self, check, draw, Drawn, Outcome, Sheets};
 use trials::{library, rewrite, sheets};
@@ -10,7 +13,7 @@ const MOST_THINGS: usize = 6_000;
 #[derive(Default)]
 pub struct Tally {
     pub cases: u64,
-    calls: u64,
+    pub calls: u64,
     set_aside: u64,
     accepted: u64,
     met: [u64; 15],
@@ -24,6 +27,7 @@ pub struct Tally {
     need_lost_tag: u64,
     most_members: usize,
     most_answers: usize,
+    pub writings: Writings,
     pub differences: usize,
 }
 
@@ -33,7 +37,7 @@ fn hex(bytes: &[u8]) -> String {
 
 impl Tally {
     /// A difference, loudly, with the sheets.
-    fn differ(&mut self, name: &str, sheets: &Sheets, what: &str, expected: &str, got: &str) {
+    pub fn differ(&mut self, name: &str, sheets: &Sheets, what: &str, expected: &str, got: &str) {
         self.differences += 1;
         println!("DIFFERENCE in {name}, {what}: expected {expected}, got {got}");
         println!("  rules    {}", hex(&sheets.rules));
@@ -53,36 +57,22 @@ impl Tally {
 
     /// Number, count and all bytes of a list that was full of other bytes, and nothing written beside it.
     pub fn compare_answer(&mut self, name: &str, sheets: &Sheets, expected: &Outcome, chance: &mut Chance) {
-        const BESIDE: usize = 24;
         let length = expected.list.len();
-        let before: Vec<u8> = (0..length + 2 * BESIDE).map(|_| chance.from(1, 255) as u8).collect();
-        let mut lent = before.clone();
-        let (number, count) = library::answer(sheets, &mut lent[BESIDE..BESIDE + length]);
+        let mut lent = Lent::new(length, chance);
+        let (number, count) = library::answer(sheets, lent.part());
         self.calls += 1;
+        let what = format!("answer, list of {length}");
         let got = Outcome {
             number,
             count,
-            list: lent[BESIDE..BESIDE + length].to_vec(),
+            list: lent.part().to_vec(),
         };
         if got != *expected {
             let told = |o: &Outcome| format!("number {}, count {}, list {}", o.number, o.count, hex(&o.list));
-            self.differ(
-                name,
-                sheets,
-                &format!("answer, list of {length}"),
-                &told(expected),
-                &told(&got),
-            );
+            self.differ(name, sheets, &what, &told(expected), &told(&got));
         }
-        let beside = |all: &[u8]| (all[..BESIDE].to_vec(), all[BESIDE + length..].to_vec());
-        if beside(&lent) != beside(&before) {
-            self.differ(
-                name,
-                sheets,
-                &format!("answer, list of {length}"),
-                "nothing written beside it",
-                "other bytes",
-            );
+        if !lent.beside_kept() {
+            self.differ(name, sheets, &what, "nothing written beside it", "other bytes");
         }
     }
 
@@ -188,12 +178,16 @@ impl Tally {
     /// The counts, and whether they are enough.
     pub fn told(&self) -> bool {
         println!(
-            "trials of check, answer and member: {} cases, {} calls, {} set aside",
+            "trials of check, answer, member and write: {} cases, {} calls, {} set aside",
             self.cases, self.calls, self.set_aside
         );
         println!(
             "accepted {}, the largest union {} members, the longest list {} answers",
             self.accepted, self.most_members, self.most_answers
+        );
+        println!(
+            "unions written and checked, but not drawn with: {}",
+            self.writings.set_aside
         );
         let mut enough = true;
         let mut count = |what: &str, got: u64, least: u64| {
@@ -229,6 +223,9 @@ impl Tally {
             self.need_lost_tag,
             100,
         );
+        for (what, got, least) in self.writings.counts() {
+            count(&what, got, least);
+        }
         println!("differences: {}", self.differences);
         enough && self.differences == 0
     }
