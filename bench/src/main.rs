@@ -1,11 +1,12 @@
-//! The proved library beside plain Rust programs: `bench` runs both benchmarks, `bench readers` and `bench check` one of them, `bench
-//! compare` compares numbers on random sheets, `bench cards` checks 01's cards, `bench search` looks for bad sheets.
+//! The proved library beside plain Rust programs: `bench` runs all benchmarks, `bench readers`, `bench check` and `bench write` one of
+//! them, `bench compare` compares numbers on random sheets, `bench cards` checks 01's cards, `bench search` looks for bad sheets.
 //! Nothing about time is asserted.
 mod check;
 mod plain;
 mod proved;
 mod readers;
 mod sheets;
+mod write;
 
 pub const MOST_FACTS: usize = 10_000;
 pub const MOST_MEMBERS: usize = 512;
@@ -32,15 +33,17 @@ fn main() {
             check::cards::run();
             check::compare::run(3_000);
             check::measure::run();
+            write::run(3_000);
         }
         Some("readers") => readers::run(),
         Some("cards") => check::cards::run(),
         Some("compare") => check::compare::run(30_000),
         Some("check") => check::measure::run(),
+        Some("write") => write::run(30_000),
         Some("search") => check::search::run(),
         Some("once") => check::measure::once(),
         Some(other) => {
-            eprintln!("bench: no mode {other}: readers, cards, compare, check or search");
+            eprintln!("bench: no mode {other}: readers, cards, compare, check, write or search");
             std::process::exit(2);
         }
     }

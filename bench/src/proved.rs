@@ -1,6 +1,6 @@
-//! The proved readers and the proved check, as the static libraries have them, each in a safe function that tests what its contract
+//! The proved readers, the proved check and the proved writer, as the static libraries have them, each in a safe function that tests what its contract
 //! requires.
-use crate::{Read, MOST_FACTS, MOST_MEMBERS, ROW};
+use crate::{write::Written, Read, MOST_FACTS, MOST_MEMBERS, ROW};
 
 extern "C" {
     fn takwishan_bench_facts(
@@ -30,6 +30,29 @@ extern "C" {
         union: *const u8,
         union_len: usize,
     ) -> u32;
+
+    fn takwishan_write(
+        rules: *const u8,
+        rules_len: usize,
+        question: *const u8,
+        question_len: usize,
+        sheet: *mut u8,
+        sheet_len: usize,
+    ) -> Written;
+}
+
+/// Writes the union of rules and question into the sheet. It requires nothing.
+pub fn write(rules: &[u8], question: &[u8], sheet: &mut [u8]) -> Written {
+    unsafe {
+        takwishan_write(
+            rules.as_ptr(),
+            rules.len(),
+            question.as_ptr(),
+            question.len(),
+            sheet.as_mut_ptr(),
+            sheet.len(),
+        )
+    }
 }
 
 /// The number of the first refusal of 1 to 11 that applies, 0 where the union is accepted. It requires nothing.

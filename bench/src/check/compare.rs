@@ -5,7 +5,7 @@ use super::{check, Counts};
 use crate::proved;
 
 /// A random rule over two concepts and roles 0 to 3 and 16, partners among them.
-fn rule(draw: &mut Draw) -> Rule {
+pub fn rule(draw: &mut Draw) -> Rule {
     let mut role = || [0, 1, 2, 3, 16][draw.below(5)];
     let (left, right) = (role(), role());
     if draw.below(3) == 0 {
@@ -26,7 +26,8 @@ fn term(draw: &mut Draw, variables: usize) -> Term {
     }
 }
 
-fn question(draw: &mut Draw) -> Query {
+/// A random question of up to four atoms.
+pub fn question(draw: &mut Draw) -> Query {
     let size = 1 + draw.below(4);
     let variables = 1 + draw.below(5);
     let mut atoms: Vec<Atom> = Vec::new();
@@ -48,7 +49,7 @@ fn question(draw: &mut Draw) -> Query {
 }
 
 /// One of the three sheets damaged: a bit turned, a byte changed, bytes cut off or added, or parts exchanged.
-fn damaged(draw: &mut Draw, bytes: &mut Bytes) {
+pub fn damaged(draw: &mut Draw, bytes: &mut Bytes) {
     let sheet = match draw.below(6) {
         0 => &mut bytes.rules,
         1 => &mut bytes.question,

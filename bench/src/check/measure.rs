@@ -7,8 +7,8 @@ use crate::proved;
 use std::hint::black_box;
 
 /// A sheet is measured twice at least, and again until it has taken so many seconds, and at most so often.
-const ENOUGH: f64 = 8.0;
-const MOST_REPETITIONS: usize = 20;
+pub const ENOUGH: f64 = 8.0;
+pub const MOST_REPETITIONS: usize = 20;
 
 #[repr(C)]
 struct Timespec {
@@ -42,10 +42,11 @@ pub struct Measured {
     counts: Counts,
 }
 
-fn seconds(work: impl FnOnce() -> u32) -> (f64, u32) {
+/// What the work gives, and the seconds that it took.
+pub fn seconds<T>(work: impl FnOnce() -> T) -> (f64, T) {
     let begin = processor_time();
-    let number = black_box(work());
-    (processor_time() - begin, number)
+    let given = black_box(work());
+    (processor_time() - begin, given)
 }
 
 /// Both checks on one sheet, taking turns; their numbers must agree.

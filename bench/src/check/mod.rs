@@ -44,6 +44,28 @@ pub fn alike(p: &Query, q: &Query, counts: &Counts) -> bool {
     renaming::alike(p, q, &counts.tests)
 }
 
+/// Whether the query, which has this key, is alike to one of the members, which have those keys.
+pub fn alike_to_one(
+    query: &Query,
+    key: u64,
+    members: &[Member],
+    keys: &[u64],
+    counts: &mut Counts,
+) -> bool {
+    for (member, &other) in members.iter().zip(keys) {
+        if other != key {
+            counts.passed += 1;
+            continue;
+        }
+        counts.compared += 1;
+        if alike(query, &member.query, counts) {
+            return true;
+        }
+        counts.unlike += 1;
+    }
+    false
+}
+
 /// Rules, members and the members' keys.
 struct Union<'a> {
     rules: &'a [Rule],
@@ -70,18 +92,13 @@ fn yielded(rules: &[Rule], members: &[Member], k: usize) -> Option<Query> {
 impl Union<'_> {
     /// Whether the query is alike to a member from number `from` on.
     fn alike_from(&self, query: &Query, key: u64, from: usize, counts: &mut Counts) -> bool {
-        for j in from..self.members.len() {
-            if self.keys[j] != key {
-                counts.passed += 1;
-                continue;
-            }
-            counts.compared += 1;
-            if alike(query, &self.members[j].query, counts) {
-                return true;
-            }
-            counts.unlike += 1;
-        }
-        false
+        alike_to_one(
+            query,
+            key,
+            &self.members[from..],
+            &self.keys[from..],
+            counts,
+        )
     }
 
     fn refuses10(&self, counts: &mut Counts) -> bool {

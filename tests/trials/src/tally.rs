@@ -186,8 +186,8 @@ impl Tally {
             self.accepted, self.most_members, self.most_answers
         );
         println!(
-            "unions written and checked, but not drawn with: {}",
-            self.writings.set_aside
+            "unions written and drawn with from no facts: {}",
+            self.writings.no_facts
         );
         let mut enough = true;
         let mut count = |what: &str, got: u64, least: u64| {

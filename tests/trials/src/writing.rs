@@ -12,7 +12,7 @@ use trials::{library, make, write};
 /// The longest union, in bytes.
 const LONGEST: usize = 33_282;
 
-/// A union whose rounds take more things than this is checked and not drawn with.
+/// Facts whose rounds take more things than this are too many.
 const MOST_THINGS: usize = 2_000;
 
 /// The least counts without which a run fails.
@@ -34,8 +34,8 @@ pub struct Writings {
     need_merge: u64,
     /// Unions with which an answer is drawn.
     answered: u64,
-    /// Unions that were checked only: the rounds take too many things.
-    pub set_aside: u64,
+    /// Unions with which nothing can be drawn: there are no facts, or the rounds of any take too many things.
+    pub no_facts: u64,
 }
 
 /// An outcome for a reader.
@@ -69,25 +69,28 @@ impl Tally {
         }
     }
 
-    /// The union is checked and drawn with: 0, and the answers of the rounds. The facts are the case's if they are sound.
+    /// The union is checked and drawn with: 0, and the answers of the rounds. The facts are the case's if they are sound, and fewer of
+    /// them where the rounds take too many things.
     fn compare_use(&mut self, name: &str, sheets: &Sheets, union: &Union, chance: &mut Chance) {
         let question = &union.members[0].1;
         let facts = sheets::facts(&sheets.facts).unwrap_or_else(|_| some_facts(union, chance));
+        let (facts, answers) = [facts.len(), 1, 0]
+            .into_iter()
+            .map(|many| &facts[..many.min(facts.len())])
+            .find_map(|few| Some((few, by_rounds(&union.rules, question, few, MOST_THINGS)?)))
+            .expect("rounds without facts take no things");
         let sheets = Sheets {
             rules: sheets.rules.clone(),
             question: sheets.question.clone(),
             union: union.bytes.clone(),
-            facts: write::facts(&facts, chance),
+            facts: write::facts(facts, chance),
         };
         let checked = library::check(&sheets);
         self.calls += 1;
         if checked != 0 {
             self.differ(name, &sheets, "check of the union written", "0", &checked.to_string());
         }
-        let Some(answers) = by_rounds(&union.rules, question, &facts, MOST_THINGS) else {
-            self.writings.set_aside += 1;
-            return;
-        };
+        self.writings.no_facts += u64::from(facts.is_empty());
         self.writings.answered += u64::from(!answers.is_empty());
         let needed = 2 * question.answers.len() * answers.len();
         let length = needed + chance.of(&[0, 0, 1, 17]);
