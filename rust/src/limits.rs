@@ -4,7 +4,7 @@
 pub const MOST_RULE_BYTES: usize = 2_048;
 /// The longest question: 1 byte, 4 answer terms of 3 bytes, 8 atoms of 6 bytes.
 pub const MOST_QUESTION_BYTES: usize = 61;
-/// The longest union: 2 bytes, and 512 members of 4 bytes and a question.
+/// The longest union: 2 bytes, and 512 members of 4 bytes and a question. A lent sheet of so many bytes has room for every union.
 pub const MOST_UNION_BYTES: usize = 33_282;
 /// The longest fact sheet: 10,000 facts of 6 bytes.
 pub const MOST_FACT_BYTES: usize = 60_000;

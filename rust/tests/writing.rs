@@ -121,16 +121,30 @@ fn cards_draw_the_same_with_the_union_written() {
     }
 }
 
-/// The largest union, in a thread with half a megabyte of stack.
+/// Eight atoms with 2, 2, .. and 4 names, and four answer terms: 512 members of 65 bytes.
+fn longest() -> (Vec<u8>, Vec<u8>) {
+    let rule = |(below, above): (u32, u32)| (1 << 28 | below << 14 | above).to_be_bytes();
+    let names = (0..8).map(|a| (100 + a, a)).chain([(200, 7), (300, 7)]);
+    let atom = |a: u64| (a << 34).to_be_bytes()[2..].to_vec();
+    let mut question = vec![0x48];
+    question.extend([0; 12]);
+    question.extend((0..8).flat_map(atom));
+    (names.flat_map(rule).collect(), question)
+}
+
+/// The longest union takes the whole of the longest sheet; it is written in a thread with half a megabyte of stack.
 #[test]
-fn little_stack_is_enough() {
+fn the_longest_union_fits_and_little_stack_is_enough() {
     let run = || {
-        let (rules, question) = taxonomy(511);
-        write(&rules, &question).map(|union| union.len())
+        let (rules, question) = longest();
+        let union = write(&rules, &question)?;
+        let short = written(&rules, &question, MOST_UNION_BYTES - 1).0;
+        check(&rules, &question, &union).map(|_| (union.len(), short))
     };
     let thread = std::thread::Builder::new()
         .stack_size(512 * 1024)
         .spawn(run)
         .expect("a thread");
-    assert_eq!(thread.join().expect("no overflow"), Ok(2 + 512 * 14));
+    let expected = (MOST_UNION_BYTES, Err(Refusal::SheetTooShort));
+    assert_eq!(thread.join().expect("no overflow"), Ok(expected));
 }

@@ -149,6 +149,16 @@ pub fn product_512(chance: &mut Chance) -> Plan {
     product_of(&factors, chance)
 }
 
+/// The longest union: 512 members, each of four answer terms and eight atoms.
+pub fn longest(chance: &mut Chance) -> Plan {
+    let mut factors = vec![4, 2, 2, 2, 2, 2, 2, 2];
+    chance.shuffle(&mut factors);
+    let (rules, mut question) = product_of(&factors, chance);
+    let standing: Vec<Term> = question.atoms.iter().flat_map(|atom| atom.terms()).collect();
+    question.answers = (0..4).map(|_| chance.of(&standing)).collect();
+    (rules, question)
+}
+
 /// 513 unlike questions, by 3 x 3 x 3 x 19 in up to four atoms.
 pub fn product_513(chance: &mut Chance) -> Plan {
     let factors = joined(vec![19, 3, 3, 3], 4, chance);
@@ -187,6 +197,7 @@ pub fn plan(turn: u64, chance: &mut Chance) -> Plan {
         6 => product_of_more(chance),
         7 => taxonomy(chance.from(250, 511), chance),
         8 => fork(chance.from(250, 511), chance),
+        9 => longest(chance),
         _ => wild(chance),
     }
 }
@@ -209,6 +220,13 @@ mod tests {
                 }
             }
         }
+    }
+
+    #[test]
+    fn the_longest_union_has_33_282_bytes() {
+        let (rules, question) = longest(&mut Chance::new(1));
+        let members = reached(&question, &rules, 600);
+        assert_eq!(crate::write::union_as_read(&members).len(), 33_282);
     }
 
     #[test]
