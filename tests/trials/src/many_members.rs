@@ -194,7 +194,7 @@ pub fn plan(turn: u64, chance: &mut Chance) -> Plan {
         3 => fork(513, chance),
         4 => product_512(chance),
         5 => product_513(chance),
-        6 => product_of_more(chance),
+        6 | 10 => product_of_more(chance),
         7 => taxonomy(chance.from(250, 511), chance),
         8 => fork(chance.from(250, 511), chance),
         9 => longest(chance),
