@@ -1,9 +1,9 @@
 -- Packing: the bytes of a sheet from the values that it says, and which values a sheet can say. Format takes apart what is put
 -- together here; w is the width of an object's number, as there.
 use mathlib.Core.Path.{_≡_}
-use Prim.Native.Nat.{ℕ, zero, suc, _+_, _*_, _/_, _%_, _^_, _≤_, _<_}
+use Prim.Native.Nat.{ℕ, zero, suc, _+_, _-_, _*_, _/_, _%_, _^_, _≤_, _<_}
 use mathlib.Core.List.{List, [], _∷_, _++_, map, flatMap}
-use lib.ListN.{length}
+use lib.ListN.{length, replicate}
 use Rattle.theory.specs.Lists.{_∈_, pick}
 use Rattle.theory.specs.Syntax.{Term, var, const, Atom, concept, role, Basic, named, has, hasInverse, Rule, conceptInclusion, roleInclusion}
 use Rattle.theory.specs.Syntax.{Query, Step, Member, UCQ, Fact}
@@ -114,6 +114,11 @@ packMember w m = bytesOf stepBytes (stepNumber (m .step)) ++ packQuery w (m .que
 unfoldable pub packUnion : ℕ → UCQ → List ℕ
 unfolding bytesOf packMember flatMap
 packUnion w union = bytesOf countBytes (length union) ++ flatMap (packMember w) union
+
+-- a union at the beginning of a lent sheet of `room` bytes; 02, T-02: "the lent sheet is zero after them"
+unfoldable pub unionSheet : ℕ → ℕ → UCQ → List ℕ
+unfolding packUnion
+unionSheet w room union = packUnion w union ++ replicate (room - length (packUnion w union)) 0
 
 -- ---- which values a sheet can say
 

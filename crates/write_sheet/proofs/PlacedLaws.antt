@@ -1,0 +1,69 @@
+-- Bytes put into a sheet: the sheet stays as long, and one part may be put after another.
+use mathlib.Core.Path.{_≡_, refl, sym, ap, ap₂, _∙_}
+use Prim.Native.Nat.{ℕ, suc, _+_, _≤_, _<_}
+use native.Mathlib.Nat.{add-zero}
+use native.Mathlib.Omega.{arith}
+use mathlib.Core.List.{List, [], _∷_, _++_, append-assoc}
+use lib.ListN.{length, take, drop, set, take-append-drop, length-append, length-drop}
+use lib.Seq.{length-take-le, take-at, drop-at, drop-drop, append-snoc, set-split, take-set-le}
+use Rattle.write_sheet.specs.Placed.{placed}
+
+-- as it is defined
+opens : (s : List ℕ) (at : ℕ) (xs : List ℕ) → placed s at xs ≡ take at s ++ (xs ++ drop (at + length xs) s)
+unfolding placed
+opens s at xs = refl
+
+pub placed-nil : (s : List ℕ) (at : ℕ) → placed s at [] ≡ s
+unfolding placed
+placed-nil s at = ap (λ k. take at s ++ drop k s) (add-zero at) ∙ take-append-drop at s
+
+module _ (s : List ℕ) (at : ℕ) (xs : List ℕ) (room : at + length xs ≤ length s) where
+  front : length (take at s) ≡ at
+  front = length-take-le at s (omega arith)
+
+  end : length (take at s ++ xs) ≡ at + length xs
+  end = length-append (take at s) xs ∙ ap (λ k. k + length xs) front
+
+  regrouped : placed s at xs ≡ take at s ++ xs ++ drop (at + length xs) s
+  unfolding placed
+  regrouped = sym (append-assoc (take at s) xs (drop (at + length xs) s))
+
+  pub placed-length : length (placed s at xs) ≡ length s
+  placed-length =
+      ap length regrouped ∙ length-append (take at s ++ xs) (drop (at + length xs) s)
+      ∙ ap₂ _+_ end (length-drop (at + length xs) s) ∙ omega arith
+
+  -- what stands before the end of the bytes, and what behind it
+  pub placed-before : take (at + length xs) (placed s at xs) ≡ take at s ++ xs
+  placed-before =
+      ap (take (at + length xs)) regrouped ∙ take-at (take at s ++ xs) (drop (at + length xs) s) (at + length xs) end
+
+  pub placed-behind : drop (at + length xs) (placed s at xs) ≡ drop (at + length xs) s
+  placed-behind =
+      ap (drop (at + length xs)) regrouped ∙ drop-at (take at s ++ xs) (drop (at + length xs) s) (at + length xs) end
+
+  -- other bytes put behind them
+  pub placed-then : (ys : List ℕ) → placed (placed s at xs) (at + length xs) ys ≡ placed s at (xs ++ ys)
+  placed-then ys =
+      let i : ℕ = at + length xs in
+      let later : drop (i + length ys) (placed s at xs) ≡ drop (i + length ys) s =
+      sym (drop-drop (length ys) i (placed s at xs)) ∙ ap (drop (length ys)) placed-behind ∙ drop-drop (length ys) i s in
+      let e : length (xs ++ ys) ≡ length xs + length ys = length-append xs ys in
+      let d : i + length ys ≡ at + length (xs ++ ys) = omega arith in
+      opens (placed s at xs) i ys ∙ ap₂ (λ a b. a ++ (ys ++ b)) placed-before later
+      ∙ append-assoc (take at s) xs (ys ++ drop (i + length ys) s)
+      ∙ ap (λ l. take at s ++ l) (sym (append-assoc xs ys (drop (i + length ys) s)) ∙ ap (λ k. xs ++ ys ++ drop k s) d)
+      ∙ sym (opens s at (xs ++ ys))
+
+-- one byte put behind where they will stand
+pub placed-set : (s : List ℕ) (at : ℕ) (xs : List ℕ) (b : ℕ) → at + length xs < length s
+    → placed (set s (at + length xs) b) at xs ≡ placed s at (xs ++ (b ∷ []))
+unfolding placed
+placed-set s at xs b room =
+    let i : ℕ = at + length xs in
+    let e : length (xs ++ (b ∷ [])) ≡ length xs + 1 = length-append xs (b ∷ []) in
+    let d : suc i ≡ at + length (xs ++ (b ∷ [])) = omega arith in
+    let behind : drop i (set s i b) ≡ b ∷ drop (suc i) s =
+    ap (drop i) (set-split s i b room) ∙ drop-at (take i s) (b ∷ drop (suc i) s) i (length-take-le i s (omega arith)) in
+    ap₂ (λ l r. l ++ (xs ++ r)) (take-set-le at s i b (omega arith)) behind
+    ∙ ap (λ l. take at s ++ l) (sym (append-snoc xs b (drop (suc i) s)) ∙ ap (λ k. xs ++ (b ∷ []) ++ drop k s) d)
