@@ -1,2 +1,3 @@
 pub mod PlacedLaws
 pub mod NumberLaws
+pub mod QuestionLaws

@@ -15,8 +15,8 @@ use Rattle.words.specs.Records.{termOf, atomOf}
 use Rattle.words.specs.Words.{wordTerm, wordAtom, wordKind, wordName, wordFirst, wordSecond}
 use Rattle.sheets.specs.Packing.{bytesOf, bitsAfter, fieldsNumber, termNumber, atomNumber}
 use Rattle.sheets.specs.Laws.PackingBytes.{length-bytesOf}
-use Rattle.write_sheet.specs.Placed.{placed}
-use Rattle.write_sheet.proofs.PlacedLaws.{placed-nil, placed-set}
+use Rattle.write_sheet.specs.Placed.{placed, answerRecord, atomRecord}
+use Rattle.write_sheet.proofs.PlacedLaws.{placed-nil, placed-length, placed-set}
 
 -- ---- terms and atoms
 
@@ -83,4 +83,23 @@ module _ (first sheet : List ℕ) (at size number k rest : ℕ) (room : at + siz
       let z : k ≡ 0 = omega arith in
       sym (placed-nil sheet at) ∙ ap (placed sheet at) (sym (ap (λ i. bytesOf i rest) z ∙ no-bytes rest)) ∙ left
 
-pub ruleset laws = (needs, narrowed, concept-number, role-number, length-set, byte-within, byte-next, bytes-all)
+-- ---- records
+
+pub answer-put : (s later : List ℕ) (at t x : ℕ) → later ≡ placed s at (bytesOf 3 x) → x ≡ termNumber sheetWidth (wordTerm t)
+    → later ≡ placed s at (answerRecord t)
+unfolding answerRecord
+answer-put s later at t x e d = e ∙ ap (λ n. placed s at (bytesOf 3 n)) d
+
+pub atom-put : (s later : List ℕ) (at a x : ℕ) → later ≡ placed s at (bytesOf 6 x) → x ≡ atomNumber sheetWidth (wordAtom a)
+    → later ≡ placed s at (atomRecord a)
+unfolding atomRecord
+atom-put s later at a x e d = e ∙ ap (λ n. placed s at (bytesOf 6 n)) d
+
+-- a number put: the sheet stays as long
+pub number-long : (sheet later : List ℕ) (at size x : ℕ) → later ≡ placed sheet at (bytesOf size x) → at + size ≤ length sheet
+    → length later ≡ length sheet
+number-long sheet later at size x e room =
+    let l : length (bytesOf size x) ≡ size = length-bytesOf size x in
+    ap length e ∙ placed-length sheet at (bytesOf size x) (omega arith)
+
+pub ruleset laws = (needs, narrowed, concept-number, role-number, length-set, byte-within, byte-next, bytes-all, answer-put, atom-put, number-long)

@@ -67,3 +67,26 @@ placed-set s at xs b room =
     ap (drop i) (set-split s i b room) ∙ drop-at (take i s) (b ∷ drop (suc i) s) i (length-take-le i s (omega arith)) in
     ap₂ (λ l r. l ++ (xs ++ r)) (take-set-le at s i b (omega arith)) behind
     ∙ ap (λ l. take at s ++ l) (sym (append-snoc xs b (drop (suc i) s)) ∙ ap (λ k. xs ++ (b ∷ []) ++ drop k s) d)
+
+-- A loop that puts bytes: what is left, put where it belongs, makes the sheet that is promised, in which all of it stands from `start` on.
+pub record Left (first : List ℕ) (start : ℕ) (whole sheet : List ℕ) (at : ℕ) (rest : List ℕ) : Type 0 where
+  pub same : length sheet ≡ length first
+  pub makes : placed sheet at rest ≡ placed first start whole
+
+module _ (first : List ℕ) (start : ℕ) (whole sheet : List ℕ) (at : ℕ) (rest : List ℕ) (left : Left first start whole sheet at rest) where
+  pub left-same : length sheet ≡ length first
+  left-same = left .same
+
+  -- the next bytes put
+  pub left-next : (xs later ys : List ℕ) (to : ℕ) → rest ≡ xs ++ ys → to ≡ at + length xs → to ≤ length first → later ≡ placed sheet at xs
+      → Left first start whole later to ys
+  left-next xs later ys to parts end room e =
+      let s : length sheet ≡ length first = left .same in
+      let r : at + length xs ≤ length sheet = omega arith in
+      record {
+        same = ap length e ∙ placed-length sheet at xs r ∙ s;
+        makes = ap₂ (λ l k. placed l k ys) e end ∙ placed-then sheet at xs r ys ∙ ap (placed sheet at) (sym parts) ∙ left .makes;
+      }
+
+  pub left-done : rest ≡ [] → sheet ≡ placed first start whole
+  left-done e = sym (placed-nil sheet at) ∙ ap (placed sheet at) (sym e) ∙ left .makes

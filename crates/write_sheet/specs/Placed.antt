@@ -4,12 +4,22 @@ use mathlib.Core.List.{List, _++_, map, flatMap}
 use lib.ListN.{length, take, drop}
 use Rattle.theory.specs.Syntax.{Term, Atom}
 use Rattle.words.specs.Limits.{sheetWidth, answerBytes, recordBytes}
-use Rattle.words.specs.Words.{unionIn}
-use Rattle.sheets.specs.Packing.{packRecords, termNumber, atomNumber, packMember}
+use Rattle.words.specs.Records.{termOf, atomOf}
+use Rattle.words.specs.Words.{wordTerm, wordAtom, unionIn}
+use Rattle.sheets.specs.Packing.{bytesOf, packRecords, fieldsNumber, termNumber, atomNumber, packMember}
 
 -- the bytes stand from index `at` on, and all others are as they were
 unfoldable pub placed : List ℕ → ℕ → List ℕ → List ℕ
 placed s at bytes = take at s ++ (bytes ++ drop (at + length bytes) s)
+
+-- the bytes of a word's answer term, and of a word's atom, on a sheet
+unfoldable pub answerRecord : ℕ → List ℕ
+unfolding bytesOf fieldsNumber termOf
+answerRecord t = bytesOf (answerBytes sheetWidth) (termNumber sheetWidth (wordTerm t))
+
+unfoldable pub atomRecord : ℕ → List ℕ
+unfolding bytesOf fieldsNumber atomOf
+atomRecord a = bytesOf (recordBytes sheetWidth) (atomNumber sheetWidth (wordAtom a))
 
 -- a question's answer terms; its atoms; a union's members without their count
 abbrev pub answersBytes : ℕ → List Term → List ℕ

@@ -1,6 +1,6 @@
 // A question on a sheet: its counts, its answer terms, its atoms.
-use crate::numbers::narrow_atom;
-use crate::numbers::narrow_term;
+use crate::numbers::put_answer;
+use crate::numbers::put_atom;
 use crate::numbers::put_number;
 use words::QueryWords;
 use words::limits::ANSWER_BYTES;
@@ -31,7 +31,7 @@ fn put_answers(sheet: &mut [u8], at: usize, answers: [u64; MOST_TERMS], n: usize
 {
     let mut i: usize = 0;
     while i < n {
-        put_number(sheet, at + ANSWER_BYTES * i, ANSWER_BYTES, narrow_term(answers[i]));
+        put_answer(sheet, at + ANSWER_BYTES * i, answers[i]);
         i += 1;
     }
 }
@@ -43,7 +43,7 @@ fn put_atoms(sheet: &mut [u8], at: usize, atoms: [u64; MOST_ATOMS], n: usize)
 {
     let mut i: usize = 0;
     while i < n {
-        put_number(sheet, at + ATOM_BYTES * i, ATOM_BYTES, narrow_atom(atoms[i]));
+        put_atom(sheet, at + ATOM_BYTES * i, atoms[i]);
         i += 1;
     }
 }

@@ -77,7 +77,7 @@ module _ (w : ℕ) (whole : WholeBytes w) where
   abbrev packAtoms : Query → List ℕ
   packAtoms q = pack (recordBytes w) atom-record-code (q .atoms)
 
-  length-question : (q : Query) → length (packQuery w q) ≡ 1 + answerBytes w * length (q .answers) + recordBytes w * length (q .atoms)
+  pub length-question : (q : Query) → length (packQuery w q) ≡ 1 + answerBytes w * length (q .answers) + recordBytes w * length (q .atoms)
   unfolding packQuery
   length-question q =
       length-number 1 (countsNumber q) (packAnswers q ++ packAtoms q)

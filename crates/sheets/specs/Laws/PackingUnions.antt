@@ -44,7 +44,7 @@ module _ (w : ℕ) (whole : WholeBytes w) where
 
   -- ---- packed members that stand in a sheet
 
-  length-member : (m : Member) → length (packMember w m) ≡ 4 + length (packQuery w (m .query))
+  pub length-member : (m : Member) → length (packMember w m) ≡ 4 + length (packQuery w (m .query))
   unfolding packMember
   length-member m = length-number 4 (stepNumber (m .step)) (packQuery w (m .query))
 
