@@ -222,7 +222,7 @@ module _ (q : QueryWords) (four : length (q .answers) ≡ 4) (eight : length (q 
           pub question-same : length three ≡ length first
           question-same = ap length question-put ∙ placed-length first at (packQuery sheetWidth (queryOf q)) room
 
-pub ruleset laws = (
+pub ruleset recordLaws = (
   needs,
   left-same,
   word-below,
@@ -234,11 +234,6 @@ pub ruleset laws = (
   atom-next,
   atom-room,
   atoms-done,
-  question-long,
-  question-short,
-  counts-room,
-  answers-room,
-  atoms-room,
-  question-put,
-  question-same,
 )
+
+pub ruleset laws = (needs, question-long, question-short, counts-room, answers-room, atoms-room, question-put, question-same)
