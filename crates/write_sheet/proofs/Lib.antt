@@ -1,3 +1,5 @@
 pub mod PlacedLaws
 pub mod NumberLaws
 pub mod QuestionLaws
+pub mod MemberLaws
+pub mod UnionLaws
