@@ -1,16 +1,16 @@
 -- Terms and atoms as numbers of a sheet, and the bytes of a number put from the last to the first.
-use mathlib.Core.Path.{_≡_, refl, sym, ap, ap₂, _∙_}
-use Prim.Native.Nat.{ℕ, zero, suc, _+_, _-_, _*_, _/_, _%_, _^_, _≤_, _<_}
+use mathlib.Core.Path.{_≡_, refl, sym, ap, _∙_}
+use Prim.Native.Nat.{ℕ, suc, _+_, _-_, _*_, _/_, _%_, _^_, _≤_, _<_}
 use native.Mathlib.Omega.{arith}
 use mathlib.Core.Bool.{Bool, true, false}
 use mathlib.Core.List.{List, [], _∷_, _++_}
 use lib.Dec.{eqb}
 use lib.ListN.{length, set, length-set}
 use borrow.Author.Needs.{needs}
-use borrow.Author.Tests.{eq-eqb, ne-eqb, eqb-true, eqb-false}
+use borrow.Author.Tests.{ne-eqb, eqb-true, eqb-false}
 use Rattle.theory.specs.Lists.{pick}
-use Rattle.theory.specs.Syntax.{Term, var, const, concept, role}
-use Rattle.words.specs.Limits.{sheetWidth, wordWidth, wordObjectBound, wordTermBound}
+use Rattle.theory.specs.Syntax.{var, const}
+use Rattle.words.specs.Limits.{sheetWidth, wordWidth, objectBound, wordObjectBound, wordTermBound}
 use Rattle.words.specs.Records.{termOf, atomOf}
 use Rattle.words.specs.Words.{wordTerm, wordAtom, wordKind, wordName, wordFirst, wordSecond}
 use Rattle.sheets.specs.Packing.{bytesOf, bitsAfter, fieldsNumber, termNumber, atomNumber}
@@ -38,8 +38,9 @@ term-moved w v t h = go (eqb (t / 2 ^ v) 0) refl
         let d : 0 * 2 ^ 1 + 1 ≡ t / 2 ^ v = omega arith in
         ap (λ k. k * 2 ^ w + n) d
 
-pub narrowed : (t n : ℕ) → t < wordTermBound → n ≡ t % wordObjectBound → t / wordObjectBound * 65536 + n ≡ termNumber sheetWidth (wordTerm t)
-narrowed t n h e = ap (λ k. t / wordObjectBound * 65536 + k) e ∙ sym (term-moved sheetWidth wordWidth t (omega arith))
+pub narrowed : (t n : ℕ) → t < wordTermBound → n ≡ t % wordObjectBound
+    → t / wordObjectBound * objectBound + n ≡ termNumber sheetWidth (wordTerm t)
+narrowed t n h e = ap (λ k. t / wordObjectBound * objectBound + k) e ∙ sym (term-moved sheetWidth wordWidth t (omega arith))
 
 module _ (a k n f x : ℕ) (d : n ≡ wordName a) (e : f ≡ wordFirst a) (g : x ≡ termNumber sheetWidth (wordTerm f)) (h : k ≡ wordKind a) where
   pub concept-number : k ≡ 0 → n * 17179869184 + x * 131072 ≡ atomNumber sheetWidth (wordAtom a)
@@ -102,4 +103,16 @@ number-long sheet later at size x e room =
     let l : length (bytesOf size x) ≡ size = length-bytesOf size x in
     ap length e ∙ placed-length sheet at (bytesOf size x) (omega arith)
 
-pub ruleset laws = (needs, narrowed, concept-number, role-number, length-set, byte-within, byte-next, bytes-all, answer-put, atom-put, number-long)
+pub ruleset laws = (
+  needs,
+  narrowed,
+  concept-number,
+  role-number,
+  length-set,
+  byte-within,
+  byte-next,
+  bytes-all,
+  answer-put,
+  atom-put,
+  number-long,
+)

@@ -1,15 +1,12 @@
 -- A question put on a sheet: records of one size one after another, and the counts before them.
 use mathlib.Core.Path.{_≡_, refl, sym, ap, ap₂, _∙_}
-use Prim.Native.Nat.{ℕ, suc, _+_, _*_, _≤_, _<_}
+use Prim.Native.Nat.{ℕ, _+_, _*_, _≤_, _<_}
 use native.Mathlib.Nat.{mul-suc}
 use native.Mathlib.Numerals.{add-one}
 use native.Mathlib.Omega.{arith}
 use mathlib.Core.List.{List, [], _∷_, _++_, map}
 use lib.ListN.{length, getD, take, drop, length-map}
 use borrow.Author.Needs.{needs}
-use mir.Syntax.{w64}
-use mir.Val.{Fits}
-use Rattle.theory.specs.Syntax.{Term, Atom}
 use Rattle.theory.specs.Laws.Scans.{records-length, records-cons, records-nil}
 use Rattle.words.specs.Limits.{sheetWidth, mostTerms, mostAtoms, answerBytes, recordBytes, mostQuestionBytes}
 use Rattle.words.specs.Laws.LowVariables.{word-below}
@@ -88,12 +85,14 @@ module _ (first : List ℕ) (at : ℕ) (answers : List ℕ) (n : ℕ) (sheet : L
       record-next (answerBytes sheetWidth) (termNumber sheetWidth) wordTerm answers n first at (answersAll answers n) sheet i left later
       (omega arith) h (omega arith) e
 
-  pub answer-room : at + answerBytes sheetWidth * n ≤ length first → i < n → at + answerBytes sheetWidth * i + answerBytes sheetWidth ≤ length sheet
+  pub answer-room : at + answerBytes sheetWidth * n ≤ length first → i < n
+      → at + answerBytes sheetWidth * i + answerBytes sheetWidth ≤ length sheet
   answer-room room h = let s = left .same in omega arith
 
   pub answers-done : n ≤ i → sheet ≡ placed first at (answersAll answers n)
   unfolding answersFrom
-  answers-done h = records-done (answerBytes sheetWidth) (termNumber sheetWidth) wordTerm answers n first at (answersAll answers n) sheet i left h
+  answers-done h =
+      records-done (answerBytes sheetWidth) (termNumber sheetWidth) wordTerm answers n first at (answersAll answers n) sheet i left h
 
 -- ---- the atoms
 
@@ -121,12 +120,14 @@ module _ (first : List ℕ) (at : ℕ) (atoms : List ℕ) (n : ℕ) (sheet : Lis
       record-next (recordBytes sheetWidth) (atomNumber sheetWidth) wordAtom atoms n first at (atomsAll atoms n) sheet i left later
       (omega arith) h (omega arith) e
 
-  pub atom-room : at + recordBytes sheetWidth * n ≤ length first → i < n → at + recordBytes sheetWidth * i + recordBytes sheetWidth ≤ length sheet
+  pub atom-room : at + recordBytes sheetWidth * n ≤ length first → i < n
+      → at + recordBytes sheetWidth * i + recordBytes sheetWidth ≤ length sheet
   atom-room room h = let s = left .same in omega arith
 
   pub atoms-done : n ≤ i → sheet ≡ placed first at (atomsAll atoms n)
   unfolding atomsFrom
-  atoms-done h = records-done (recordBytes sheetWidth) (atomNumber sheetWidth) wordAtom atoms n first at (atomsAll atoms n) sheet i left h
+  atoms-done h =
+      records-done (recordBytes sheetWidth) (atomNumber sheetWidth) wordAtom atoms n first at (atomsAll atoms n) sheet i left h
 
 -- ---- a question
 

@@ -1,18 +1,14 @@
 -- The whole union: its length, and its bytes at the beginning of a sheet with zeros after them.
-use mathlib.Core.Path.{_≡_, refl, sym, ap, ap₂, _∙_}
-use Prim.Native.Nat.{ℕ, _+_, _*_, _-_, _^_, _≤_, _<_}
-use native.Mathlib.Nat.{zero-add}
+use mathlib.Core.Path.{_≡_, sym, ap, ap₂, _∙_}
+use Prim.Native.Nat.{ℕ, _+_, _-_, _≤_, _<_}
 use native.Mathlib.Omega.{arith}
 use mathlib.Core.List.{List, [], _++_, append-nil}
-use lib.ListN.{length, take, drop, replicate, length-append, length-drop, drop-of-length-le}
-use lib.Seq.{take-at, length-take-le}
+use lib.ListN.{length, take, drop, replicate, length-drop, drop-of-length-le}
+use lib.Seq.{length-take-le}
 use borrow.Author.Needs.{needs}
 use borrow.Rule.Slice.PartMut.{putMid}
-use mir.Syntax.{w64}
-use mir.Val.{Fits}
-use Rattle.theory.specs.Lists.{numbers}
 use Rattle.theory.specs.Laws.Lists.{numbered-length}
-use Rattle.words.specs.Limits.{sheetWidth, mostMembers, mostQuestionBytes, mostUnionBytes}
+use Rattle.words.specs.Limits.{sheetWidth}
 use Rattle.words.specs.Words.{queryOf, unionIn}
 use Rattle.words.specs.declared.QueryWords.{QueryWords}
 use Rattle.words.specs.Rows.{memberIn}
