@@ -66,9 +66,9 @@ module _ (table : List ℕ) (j : ℕ) where
       pub end-fits : (r : ℕ) → r ≡ length (packQuery sheetWidth (queryOf q)) → length first * 1 < 2 ^ 63 → Fits w64 (at + 4 + r)
       end-fits r e f = let l = member-long in omega arith
 
-      module _ (one : List ℕ) (e : one ≡ placed first at (bytesOf 4 (getD table (16 * j) 0 % ruleBound))) where
+      module _ (one : List ℕ) (x : ℕ) (e : one ≡ placed first at (bytesOf 4 x)) where
         one-long : length one ≡ length first
-        one-long = number-long first one at 4 (getD table (16 * j) 0 % ruleBound) e step-room
+        one-long = number-long first one at 4 x e step-room
 
         pub question-room : at + 4 + length (packQuery sheetWidth (queryOf q)) ≤ length one
         question-room =
@@ -77,18 +77,19 @@ module _ (table : List ℕ) (j : ℕ) where
             omega arith
 
         module _ (two : List ℕ) (g : two ≡ placed one (at + 4) (packQuery sheetWidth (queryOf q))) where
-          pub member-put : two ≡ placed first at (packMember sheetWidth (memberIn table j))
-          member-put =
-              let xs : List ℕ = bytesOf 4 (getD table (16 * j) 0 % ruleBound) in
-              let l : length xs ≡ 4 = length-bytesOf 4 (getD table (16 * j) 0 % ruleBound) in
+          pub member-put : x ≡ getD table (16 * j) 0 % ruleBound → two ≡ placed first at (packMember sheetWidth (memberIn table j))
+          member-put d =
+              let l : length (bytesOf 4 x) ≡ 4 = length-bytesOf 4 x in
               let r : at + 4 ≤ length first = step-room in
-              let s : at + 4 ≡ at + length xs = omega arith in
+              let s : at + 4 ≡ at + length (bytesOf 4 x) = omega arith in
               g ∙ ap₂ (λ t k. placed t k (packQuery sheetWidth (queryOf q))) e s
-              ∙ placed-then first at xs (omega arith) (packQuery sheetWidth (queryOf q))
-              ∙ ap (placed first at) packed
+              ∙ placed-then first at (bytesOf 4 x) (omega arith) (packQuery sheetWidth (queryOf q))
+              ∙ ap (λ n. placed first at (bytesOf 4 n ++ packQuery sheetWidth (queryOf q))) d ∙ ap (placed first at) packed
 
           pub member-same : length two ≡ length first
-          member-same = ap length member-put ∙ placed-length first at (packMember sheetWidth (memberIn table j)) room
+          member-same =
+              let r : at + 4 + length (packQuery sheetWidth (queryOf q)) ≤ length one = question-room in
+              ap length g ∙ placed-length one (at + 4) (packQuery sheetWidth (queryOf q)) r ∙ one-long
 
     pub member-end : (at r : ℕ) → r ≡ length (packQuery sheetWidth (queryOf q))
         → at + 4 + r ≡ at + length (packMember sheetWidth (memberIn table j))

@@ -150,6 +150,20 @@ module _ (q : QueryWords) (four : length (q .answers) ≡ 4) (eight : length (q 
       let g = small .few-atoms in
       omega arith
 
+  answers-long : length (answersAll (q .answers) (q .terms)) ≡ 3 * q .terms
+  answers-long =
+      let f = small .few-terms in
+      length-records 3 (map (termNumber sheetWidth) (map wordTerm (take (q .terms) (q .answers))))
+      ∙ ap (λ k. 3 * k) (length-map (map wordTerm (take (q .terms) (q .answers))) (termNumber sheetWidth)
+      ∙ records-length wordTerm (q .answers) (q .terms) (omega arith))
+
+  atoms-long : length (atomsAll (q .atoms) (q .size)) ≡ 6 * q .size
+  atoms-long =
+      let f = small .few-atoms in
+      length-records 6 (map (atomNumber sheetWidth) (map wordAtom (take (q .size) (q .atoms))))
+      ∙ ap (λ k. 6 * k) (length-map (map wordAtom (take (q .size) (q .atoms))) (atomNumber sheetWidth)
+      ∙ records-length wordAtom (q .atoms) (q .size) (omega arith))
+
   counts-are : q .terms * 16 + q .size ≡ fieldsNumber ((4, length (queryOf q .answers)) ∷ (4, length (queryOf q .atoms)) ∷ [])
   unfolding fieldsNumber
   counts-are =
@@ -174,9 +188,9 @@ module _ (q : QueryWords) (four : length (q .answers) ≡ 4) (eight : length (q 
     pub counts-room : at + 1 ≤ length first
     counts-room = let l = ends in omega arith
 
-    module _ (one : List ℕ) (e : one ≡ placed first at (bytesOf 1 (q .terms * 16 + q .size))) where
+    module _ (one : List ℕ) (x : ℕ) (e : one ≡ placed first at (bytesOf 1 x)) where
       one-long : length one ≡ length first
-      one-long = number-long first one at 1 (q .terms * 16 + q .size) e counts-room
+      one-long = number-long first one at 1 x e counts-room
 
       pub answers-room : at + 1 + 3 * q .terms ≤ length one
       answers-room =
@@ -185,13 +199,6 @@ module _ (q : QueryWords) (four : length (q .answers) ≡ 4) (eight : length (q 
           omega arith
 
       module _ (two : List ℕ) (g : two ≡ placed one (at + 1) (answersAll (q .answers) (q .terms))) where
-        answers-long : length (answersAll (q .answers) (q .terms)) ≡ 3 * q .terms
-        answers-long =
-            let f = small .few-terms in
-            length-records 3 (map (termNumber sheetWidth) (map wordTerm (take (q .terms) (q .answers))))
-            ∙ ap (λ k. 3 * k) (length-map (map wordTerm (take (q .terms) (q .answers))) (termNumber sheetWidth)
-            ∙ records-length wordTerm (q .answers) (q .terms) (omega arith))
-
         two-long : length two ≡ length first
         two-long =
             let l = answers-long in
@@ -205,23 +212,30 @@ module _ (q : QueryWords) (four : length (q .answers) ≡ 4) (eight : length (q 
             omega arith
 
         module _ (three : List ℕ) (h : three ≡ placed two (at + 1 + 3 * q .terms) (atomsAll (q .atoms) (q .size))) where
-          pub question-put : three ≡ placed first at (packQuery sheetWidth (queryOf q))
-          question-put =
-              let c : List ℕ = bytesOf 1 (q .terms * 16 + q .size) in
+          parts-put : three ≡ placed first at (bytesOf 1 x ++ (answersAll (q .answers) (q .terms) ++ atomsAll (q .atoms) (q .size)))
+          parts-put =
+              let c : List ℕ = bytesOf 1 x in
               let a : List ℕ = answersAll (q .answers) (q .terms) in
               let b : List ℕ = atomsAll (q .atoms) (q .size) in
               let la : length a ≡ 3 * q .terms = answers-long in
-              let lc : length c ≡ 1 = length-bytesOf 1 (q .terms * 16 + q .size) in
+              let lc : length c ≡ 1 = length-bytesOf 1 x in
               let ra : at + 1 + 3 * q .terms ≤ length one = answers-room in
               let rc : at + 1 ≤ length first = counts-room in
               let ea : at + 1 + 3 * q .terms ≡ at + 1 + length a = omega arith in
               let ec : at + 1 ≡ at + length c = omega arith in
               h ∙ ap₂ (λ s k. placed s k b) g ea ∙ placed-then one (at + 1) a (omega arith) b
               ∙ ap₂ (λ s k. placed s k (a ++ b)) e ec ∙ placed-then first at c (omega arith) (a ++ b)
+
+          pub question-put : x ≡ q .terms * 16 + q .size → three ≡ placed first at (packQuery sheetWidth (queryOf q))
+          question-put d =
+              parts-put ∙ ap (λ n. placed first at (bytesOf 1 n ++ (answersAll (q .answers) (q .terms) ++ atomsAll (q .atoms) (q .size)))) d
               ∙ ap (placed first at) packed
 
           pub question-same : length three ≡ length first
-          question-same = ap length question-put ∙ placed-length first at (packQuery sheetWidth (queryOf q)) room
+          question-same =
+              let l : length (atomsAll (q .atoms) (q .size)) ≡ 6 * q .size = atoms-long in
+              let r : at + 1 + 3 * q .terms + 6 * q .size ≤ length two = atoms-room in
+              ap length h ∙ placed-length two (at + 1 + 3 * q .terms) (atomsAll (q .atoms) (q .size)) (omega arith) ∙ two-long
 
 pub ruleset recordLaws = (
   needs,
