@@ -1,4 +1,4 @@
-pub mod PlacedLaws
+pub mod PutLaws
 pub mod NumberLaws
 pub mod QuestionLaws
 pub mod MemberLaws

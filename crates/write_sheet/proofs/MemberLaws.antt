@@ -18,11 +18,11 @@ use Rattle.words.specs.Laws.Rows.{rows, next-member, no-member}
 use Rattle.sheets.specs.Packing.{bytesOf, stepNumber, packQuery, packMember}
 use Rattle.sheets.specs.Laws.PackingBytes.{getD-drop, length-bytesOf}
 use Rattle.sheets.specs.Laws.PackingNumbers.{step-code}
+use Rattle.sheets.specs.Laws.PackingSheets.{whole-sheet}
 use Rattle.sheets.specs.Laws.PackingUnions.{length-member}
-use Rattle.write_sheet.specs.Placed.{placed, membersBytes}
-use Rattle.write_sheet.proofs.PlacedLaws.{Left, placed-length, placed-then, left-next, left-done, left-same}
+use Rattle.write_sheet.specs.PutAt.{putAt, membersBytes}
+use Rattle.write_sheet.proofs.PutLaws.{Remaining, put-length, put-then, remaining-next, remaining-done, remaining-same}
 use Rattle.write_sheet.proofs.NumberLaws.{number-long}
-use Rattle.write_sheet.proofs.QuestionLaws.{whole-bytes}
 
 -- ---- a member
 
@@ -51,7 +51,7 @@ module _ (table : List ℕ) (j : ℕ) where
   module _ (q : QueryWords) (loaded : queryOf q ≡ memberIn table j .query) where
     pub member-long : length (packMember sheetWidth (memberIn table j)) ≡ 4 + length (packQuery sheetWidth (queryOf q))
     member-long =
-        length-member sheetWidth whole-bytes (memberIn table j) ∙ ap (λ p. 4 + length (packQuery sheetWidth p)) (sym loaded)
+        length-member sheetWidth whole-sheet (memberIn table j) ∙ ap (λ p. 4 + length (packQuery sheetWidth p)) (sym loaded)
 
     packed : bytesOf 4 (getD table (16 * j) 0 % ruleBound) ++ packQuery sheetWidth (queryOf q) ≡ packMember sheetWidth (memberIn table j)
     packed = ap₂ (λ x p. bytesOf 4 x ++ packQuery sheetWidth p) step-there loaded ∙ parts (memberIn table j)
@@ -66,7 +66,7 @@ module _ (table : List ℕ) (j : ℕ) where
       pub end-fits : (r : ℕ) → r ≡ length (packQuery sheetWidth (queryOf q)) → length first * 1 < 2 ^ 63 → Fits w64 (at + 4 + r)
       end-fits r e f = let l = member-long in omega arith
 
-      module _ (one : List ℕ) (x : ℕ) (e : one ≡ placed first at (bytesOf 4 x)) where
+      module _ (one : List ℕ) (x : ℕ) (e : one ≡ putAt first at (bytesOf 4 x)) where
         one-long : length one ≡ length first
         one-long = number-long first one at 4 x e step-room
 
@@ -76,20 +76,20 @@ module _ (table : List ℕ) (j : ℕ) where
             let d = one-long in
             omega arith
 
-        module _ (two : List ℕ) (g : two ≡ placed one (at + 4) (packQuery sheetWidth (queryOf q))) where
-          pub member-put : x ≡ getD table (16 * j) 0 % ruleBound → two ≡ placed first at (packMember sheetWidth (memberIn table j))
+        module _ (two : List ℕ) (g : two ≡ putAt one (at + 4) (packQuery sheetWidth (queryOf q))) where
+          pub member-put : x ≡ getD table (16 * j) 0 % ruleBound → two ≡ putAt first at (packMember sheetWidth (memberIn table j))
           member-put d =
               let l : length (bytesOf 4 x) ≡ 4 = length-bytesOf 4 x in
               let r : at + 4 ≤ length first = step-room in
               let s : at + 4 ≡ at + length (bytesOf 4 x) = omega arith in
-              g ∙ ap₂ (λ t k. placed t k (packQuery sheetWidth (queryOf q))) e s
-              ∙ placed-then first at (bytesOf 4 x) (omega arith) (packQuery sheetWidth (queryOf q))
-              ∙ ap (λ n. placed first at (bytesOf 4 n ++ packQuery sheetWidth (queryOf q))) d ∙ ap (placed first at) packed
+              g ∙ ap₂ (λ t k. putAt t k (packQuery sheetWidth (queryOf q))) e s
+              ∙ put-then first at (bytesOf 4 x) (omega arith) (packQuery sheetWidth (queryOf q))
+              ∙ ap (λ n. putAt first at (bytesOf 4 n ++ packQuery sheetWidth (queryOf q))) d ∙ ap (putAt first at) packed
 
           pub member-same : length two ≡ length first
           member-same =
               let r : at + 4 + length (packQuery sheetWidth (queryOf q)) ≤ length one = question-room in
-              ap length g ∙ placed-length one (at + 4) (packQuery sheetWidth (queryOf q)) r ∙ one-long
+              ap length g ∙ put-length one (at + 4) (packQuery sheetWidth (queryOf q)) r ∙ one-long
 
     pub member-end : (at r : ℕ) → r ≡ length (packQuery sheetWidth (queryOf q))
         → at + 4 + r ≡ at + length (packMember sheetWidth (memberIn table j))
@@ -122,13 +122,14 @@ module _ (table : List ℕ) (n : ℕ) where
 
 -- ---- the loop that puts them
 
-pub members-begin : (table : List ℕ) (n : ℕ) (s : List ℕ) → Left s 2 (membersBytes table n) s 2 (membersFrom table n 0)
-members-begin table n s = record { same = refl; makes = ap (placed s 2) (members-all table n) }
+pub members-begin : (table : List ℕ) (n : ℕ) (s : List ℕ) → Remaining s 2 (membersBytes table n) s 2 (membersFrom table n 0)
+members-begin table n s = record { same = refl; makes = ap (putAt s 2) (members-all table n) }
 
 pub members-start : (table : List ℕ) (n : ℕ) → 2 + length (membersFrom table n 0) ≡ 2 + length (membersBytes table n)
 members-start table n = ap (λ l. 2 + length l) (members-all table n)
 
-module _ (table : List ℕ) (n j at : ℕ) (first sheet : List ℕ) (left : Left first 2 (membersBytes table n) sheet at (membersFrom table n j))
+module _ (table : List ℕ) (n j at : ℕ) (first sheet : List ℕ)
+    (left : Remaining first 2 (membersBytes table n) sheet at (membersFrom table n j))
     (ends : at + length (membersFrom table n j) ≡ 2 + length (membersBytes table n)) where
   pub member-room : 2 + length (membersBytes table n) ≤ length first → j < n
       → at + length (packMember sheetWidth (memberIn table j)) ≤ length sheet
@@ -137,20 +138,20 @@ module _ (table : List ℕ) (n j at : ℕ) (first sheet : List ℕ) (left : Left
       let l = members-length table n j h in
       omega arith
 
-  pub member-next : (later : List ℕ) (to : ℕ) → later ≡ placed sheet at (packMember sheetWidth (memberIn table j))
+  pub member-next : (later : List ℕ) (to : ℕ) → later ≡ putAt sheet at (packMember sheetWidth (memberIn table j))
       → to ≡ at + length (packMember sheetWidth (memberIn table j)) → 2 + length (membersBytes table n) ≤ length first → j < n
-      → Left first 2 (membersBytes table n) later to (membersFrom table n (j + 1))
+      → Remaining first 2 (membersBytes table n) later to (membersFrom table n (j + 1))
   member-next later to e d room h =
       let l = members-length table n j h in
-      left-next first 2 (membersBytes table n) sheet at (membersFrom table n j) left (packMember sheetWidth (memberIn table j)) later
+      remaining-next first 2 (membersBytes table n) sheet at (membersFrom table n j) left (packMember sheetWidth (memberIn table j)) later
       (membersFrom table n (j + 1)) to (members-cons table n j h) d (omega arith) e
 
   pub members-ends : (to : ℕ) → to ≡ at + length (packMember sheetWidth (memberIn table j)) → j < n
       → to + length (membersFrom table n (j + 1)) ≡ 2 + length (membersBytes table n)
   members-ends to d h = let l = members-length table n j h in omega arith
 
-  pub members-done : n ≤ j → sheet ≡ placed first 2 (membersBytes table n)
-  members-done h = left-done first 2 (membersBytes table n) sheet at (membersFrom table n j) left (members-nil table n j h)
+  pub members-done : n ≤ j → sheet ≡ putAt first 2 (membersBytes table n)
+  members-done h = remaining-done first 2 (membersBytes table n) sheet at (membersFrom table n j) left (members-nil table n j h)
 
   pub members-end : n ≤ j → at ≡ 2 + length (membersBytes table n)
   members-end h = let l : length (membersFrom table n j) ≡ 0 = ap length (members-nil table n j h) in omega arith
@@ -160,7 +161,7 @@ pub ruleset laws = (needs, rows, step-room, step-fits, end-fits, question-room, 
 pub ruleset loopLaws = (
   needs,
   rows,
-  left-same,
+  remaining-same,
   members-begin,
   members-start,
   member-room,

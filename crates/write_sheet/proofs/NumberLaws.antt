@@ -15,8 +15,8 @@ use Rattle.words.specs.Records.{termOf, atomOf}
 use Rattle.words.specs.Words.{wordTerm, wordAtom, wordKind, wordName, wordFirst, wordSecond}
 use Rattle.sheets.specs.Packing.{bytesOf, bitsAfter, fieldsNumber, termNumber, atomNumber}
 use Rattle.sheets.specs.Laws.PackingBytes.{length-bytesOf}
-use Rattle.write_sheet.specs.Placed.{placed, answerRecord, atomRecord}
-use Rattle.write_sheet.proofs.PlacedLaws.{placed-nil, placed-length, placed-set}
+use Rattle.write_sheet.specs.PutAt.{putAt, answerRecord, atomRecord}
+use Rattle.write_sheet.proofs.PutLaws.{put-nil, put-length, put-set}
 
 -- ---- terms and atoms
 
@@ -63,45 +63,45 @@ unfolding bytesOf
 last-byte size n = refl
 
 module _ (first sheet : List ℕ) (at size number k rest : ℕ) (room : at + size ≤ length first) (same : length sheet ≡ length first)
-    (left : placed sheet at (bytesOf k rest) ≡ placed first at (bytesOf size number)) where
+    (left : putAt sheet at (bytesOf k rest) ≡ putAt first at (bytesOf size number)) where
   pub byte-within : 0 < k → k ≤ size → at + (k - 1) < length sheet
   byte-within h g = omega arith
 
   pub byte-next : 0 < k → k ≤ size
-      → placed (set sheet (at + (k - 1)) (rest % 256)) at (bytesOf (k - 1) (rest / 256)) ≡ placed first at (bytesOf size number)
+      → putAt (set sheet (at + (k - 1)) (rest % 256)) at (bytesOf (k - 1) (rest / 256)) ≡ putAt first at (bytesOf size number)
   byte-next h g =
       let j : ℕ = k - 1 in
       let xs : List ℕ = bytesOf j (rest / 256) in
       let s : k ≡ suc j = omega arith in
       let l : length xs ≡ j = length-bytesOf j (rest / 256) in
-      ap (λ i. placed (set sheet (at + i) (rest % 256)) at xs) (sym l)
-      ∙ placed-set sheet at xs (rest % 256) (omega arith)
-      ∙ ap (placed sheet at) (sym (ap (λ i. bytesOf i rest) s ∙ last-byte j rest))
+      ap (λ i. putAt (set sheet (at + i) (rest % 256)) at xs) (sym l)
+      ∙ put-set sheet at xs (rest % 256) (omega arith)
+      ∙ ap (putAt sheet at) (sym (ap (λ i. bytesOf i rest) s ∙ last-byte j rest))
       ∙ left
 
-  pub bytes-all : k ≤ 0 → sheet ≡ placed first at (bytesOf size number)
+  pub bytes-all : k ≤ 0 → sheet ≡ putAt first at (bytesOf size number)
   bytes-all h =
       let z : k ≡ 0 = omega arith in
-      sym (placed-nil sheet at) ∙ ap (placed sheet at) (sym (ap (λ i. bytesOf i rest) z ∙ no-bytes rest)) ∙ left
+      sym (put-nil sheet at) ∙ ap (putAt sheet at) (sym (ap (λ i. bytesOf i rest) z ∙ no-bytes rest)) ∙ left
 
 -- ---- records
 
-pub answer-put : (s later : List ℕ) (at t x : ℕ) → later ≡ placed s at (bytesOf 3 x) → x ≡ termNumber sheetWidth (wordTerm t)
-    → later ≡ placed s at (answerRecord t)
+pub answer-put : (s later : List ℕ) (at t x : ℕ) → later ≡ putAt s at (bytesOf 3 x) → x ≡ termNumber sheetWidth (wordTerm t)
+    → later ≡ putAt s at (answerRecord t)
 unfolding answerRecord
-answer-put s later at t x e d = e ∙ ap (λ n. placed s at (bytesOf 3 n)) d
+answer-put s later at t x e d = e ∙ ap (λ n. putAt s at (bytesOf 3 n)) d
 
-pub atom-put : (s later : List ℕ) (at a x : ℕ) → later ≡ placed s at (bytesOf 6 x) → x ≡ atomNumber sheetWidth (wordAtom a)
-    → later ≡ placed s at (atomRecord a)
+pub atom-put : (s later : List ℕ) (at a x : ℕ) → later ≡ putAt s at (bytesOf 6 x) → x ≡ atomNumber sheetWidth (wordAtom a)
+    → later ≡ putAt s at (atomRecord a)
 unfolding atomRecord
-atom-put s later at a x e d = e ∙ ap (λ n. placed s at (bytesOf 6 n)) d
+atom-put s later at a x e d = e ∙ ap (λ n. putAt s at (bytesOf 6 n)) d
 
 -- a number put: the sheet stays as long
-pub number-long : (sheet later : List ℕ) (at size x : ℕ) → later ≡ placed sheet at (bytesOf size x) → at + size ≤ length sheet
+pub number-long : (sheet later : List ℕ) (at size x : ℕ) → later ≡ putAt sheet at (bytesOf size x) → at + size ≤ length sheet
     → length later ≡ length sheet
 number-long sheet later at size x e room =
     let l : length (bytesOf size x) ≡ size = length-bytesOf size x in
-    ap length e ∙ placed-length sheet at (bytesOf size x) (omega arith)
+    ap length e ∙ put-length sheet at (bytesOf size x) (omega arith)
 
 pub ruleset laws = (
   needs,

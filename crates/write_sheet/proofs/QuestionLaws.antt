@@ -13,15 +13,13 @@ use Rattle.words.specs.Laws.LowVariables.{word-below}
 use Rattle.words.specs.Records.{termOf, atomOf}
 use Rattle.words.specs.Words.{queryOf, Small, wordTerm, wordAtom}
 use Rattle.words.specs.declared.QueryWords.{QueryWords}
-use Rattle.sheets.specs.Packing.{bytesOf, packRecords, fieldsNumber, termNumber, atomNumber, packQuery, WholeBytes}
+use Rattle.sheets.specs.Packing.{bytesOf, packRecords, fieldsNumber, termNumber, atomNumber, packQuery}
 use Rattle.sheets.specs.Laws.PackingBytes.{length-bytesOf, length-records}
 use Rattle.sheets.specs.Laws.PackingQueries.{length-question}
-use Rattle.write_sheet.specs.Placed.{placed, answerRecord, atomRecord, answersBytes, atomsBytes}
-use Rattle.write_sheet.proofs.PlacedLaws.{Left, placed-length, placed-then, left-next, left-done, left-same}
+use Rattle.sheets.specs.Laws.PackingSheets.{whole-sheet}
+use Rattle.write_sheet.specs.PutAt.{putAt, answerRecord, atomRecord, answersBytes, atomsBytes}
+use Rattle.write_sheet.proofs.PutLaws.{Remaining, put-length, put-then, remaining-next, remaining-done, remaining-same}
 use Rattle.write_sheet.proofs.NumberLaws.{number-long}
-
-pub whole-bytes : WholeBytes sheetWidth
-whole-bytes = (1, refl)
 
 -- ---- records of one size
 
@@ -39,10 +37,10 @@ module _ {X : Type 0} (size : ℕ) (number : X → ℕ) (of : ℕ → X) (words 
   recordsFrom i = packRecords size (map number (drop i (map of (take n words))))
 
   module _ (first : List ℕ) (start : ℕ) (whole sheet : List ℕ) (i : ℕ)
-      (left : Left first start whole sheet (start + size * i) (recordsFrom i)) where
+      (left : Remaining first start whole sheet (start + size * i) (recordsFrom i)) where
     record-next : (later : List ℕ) → n ≤ length words → i < n → start + size * i + size ≤ length first
-        → later ≡ placed sheet (start + size * i) (bytesOf size (number (of (getD words i 0))))
-        → Left first start whole later (start + size * (i + 1)) (recordsFrom (i + 1))
+        → later ≡ putAt sheet (start + size * i) (bytesOf size (number (of (getD words i 0))))
+        → Remaining first start whole later (start + size * (i + 1)) (recordsFrom (i + 1))
     record-next later few h room e =
         let x : ℕ = number (of (getD words i 0)) in
         let l : length (bytesOf size x) ≡ size = length-bytesOf size x in
@@ -50,12 +48,12 @@ module _ {X : Type 0} (size : ℕ) (number : X → ℕ) (of : ℕ → X) (words 
         let r : recordsFrom i ≡ bytesOf size x ++ recordsFrom (i + 1) =
         ap (λ l. packRecords size (map number l)) (records-cons of words n few i h)
         ∙ first-record size x (map number (drop (i + 1) (map of (take n words)))) in
-        left-next first start whole sheet (start + size * i) (recordsFrom i) left (bytesOf size x) later (recordsFrom (i + 1))
+        remaining-next first start whole sheet (start + size * i) (recordsFrom i) left (bytesOf size x) later (recordsFrom (i + 1))
         (start + size * (i + 1)) r (omega arith) (omega arith) e
 
-    records-done : n ≤ i → sheet ≡ placed first start whole
+    records-done : n ≤ i → sheet ≡ putAt first start whole
     records-done h =
-        left-done first start whole sheet (start + size * i) (recordsFrom i) left
+        remaining-done first start whole sheet (start + size * i) (recordsFrom i) left
         (ap (λ l. packRecords size (map number l)) (records-nil of words n i h) ∙ no-records size)
 
 -- ---- the answer terms
@@ -69,17 +67,17 @@ abbrev answersAll : List ℕ → ℕ → List ℕ
 answersAll answers n = answersBytes sheetWidth (map wordTerm (take n answers))
 
 pub answers-begin : (s : List ℕ) (at : ℕ) (answers : List ℕ) (n : ℕ)
-    → Left s at (answersAll answers n) s (at + answerBytes sheetWidth * 0) (answersFrom answers n 0)
+    → Remaining s at (answersAll answers n) s (at + answerBytes sheetWidth * 0) (answersFrom answers n 0)
 unfolding answersFrom
 answers-begin s at answers n =
     let z : at + answerBytes sheetWidth * 0 ≡ at = omega arith in
-    record { same = refl; makes = ap (λ k. placed s k (answersAll answers n)) z }
+    record { same = refl; makes = ap (λ k. putAt s k (answersAll answers n)) z }
 
 module _ (first : List ℕ) (at : ℕ) (answers : List ℕ) (n : ℕ) (sheet : List ℕ) (i : ℕ)
-    (left : Left first at (answersAll answers n) sheet (at + answerBytes sheetWidth * i) (answersFrom answers n i)) where
-  pub answer-next : (later : List ℕ) → later ≡ placed sheet (at + answerBytes sheetWidth * i) (answerRecord (getD answers i 0))
+    (left : Remaining first at (answersAll answers n) sheet (at + answerBytes sheetWidth * i) (answersFrom answers n i)) where
+  pub answer-next : (later : List ℕ) → later ≡ putAt sheet (at + answerBytes sheetWidth * i) (answerRecord (getD answers i 0))
       → length answers ≡ 4 → n ≤ mostTerms → at + answerBytes sheetWidth * n ≤ length first → i < n
-      → Left first at (answersAll answers n) later (at + answerBytes sheetWidth * (i + 1)) (answersFrom answers n (i + 1))
+      → Remaining first at (answersAll answers n) later (at + answerBytes sheetWidth * (i + 1)) (answersFrom answers n (i + 1))
   unfolding answersFrom answerRecord
   answer-next later e full few room h =
       record-next (answerBytes sheetWidth) (termNumber sheetWidth) wordTerm answers n first at (answersAll answers n) sheet i left later
@@ -89,7 +87,7 @@ module _ (first : List ℕ) (at : ℕ) (answers : List ℕ) (n : ℕ) (sheet : L
       → at + answerBytes sheetWidth * i + answerBytes sheetWidth ≤ length sheet
   answer-room room h = let s = left .same in omega arith
 
-  pub answers-done : n ≤ i → sheet ≡ placed first at (answersAll answers n)
+  pub answers-done : n ≤ i → sheet ≡ putAt first at (answersAll answers n)
   unfolding answersFrom
   answers-done h =
       records-done (answerBytes sheetWidth) (termNumber sheetWidth) wordTerm answers n first at (answersAll answers n) sheet i left h
@@ -104,17 +102,17 @@ abbrev atomsAll : List ℕ → ℕ → List ℕ
 atomsAll atoms n = atomsBytes sheetWidth (map wordAtom (take n atoms))
 
 pub atoms-begin : (s : List ℕ) (at : ℕ) (atoms : List ℕ) (n : ℕ)
-    → Left s at (atomsAll atoms n) s (at + recordBytes sheetWidth * 0) (atomsFrom atoms n 0)
+    → Remaining s at (atomsAll atoms n) s (at + recordBytes sheetWidth * 0) (atomsFrom atoms n 0)
 unfolding atomsFrom
 atoms-begin s at atoms n =
     let z : at + recordBytes sheetWidth * 0 ≡ at = omega arith in
-    record { same = refl; makes = ap (λ k. placed s k (atomsAll atoms n)) z }
+    record { same = refl; makes = ap (λ k. putAt s k (atomsAll atoms n)) z }
 
 module _ (first : List ℕ) (at : ℕ) (atoms : List ℕ) (n : ℕ) (sheet : List ℕ) (i : ℕ)
-    (left : Left first at (atomsAll atoms n) sheet (at + recordBytes sheetWidth * i) (atomsFrom atoms n i)) where
-  pub atom-next : (later : List ℕ) → later ≡ placed sheet (at + recordBytes sheetWidth * i) (atomRecord (getD atoms i 0))
+    (left : Remaining first at (atomsAll atoms n) sheet (at + recordBytes sheetWidth * i) (atomsFrom atoms n i)) where
+  pub atom-next : (later : List ℕ) → later ≡ putAt sheet (at + recordBytes sheetWidth * i) (atomRecord (getD atoms i 0))
       → length atoms ≡ 8 → n ≤ mostAtoms → at + recordBytes sheetWidth * n ≤ length first → i < n
-      → Left first at (atomsAll atoms n) later (at + recordBytes sheetWidth * (i + 1)) (atomsFrom atoms n (i + 1))
+      → Remaining first at (atomsAll atoms n) later (at + recordBytes sheetWidth * (i + 1)) (atomsFrom atoms n (i + 1))
   unfolding atomsFrom atomRecord
   atom-next later e full few room h =
       record-next (recordBytes sheetWidth) (atomNumber sheetWidth) wordAtom atoms n first at (atomsAll atoms n) sheet i left later
@@ -124,7 +122,7 @@ module _ (first : List ℕ) (at : ℕ) (atoms : List ℕ) (n : ℕ) (sheet : Lis
       → at + recordBytes sheetWidth * i + recordBytes sheetWidth ≤ length sheet
   atom-room room h = let s = left .same in omega arith
 
-  pub atoms-done : n ≤ i → sheet ≡ placed first at (atomsAll atoms n)
+  pub atoms-done : n ≤ i → sheet ≡ putAt first at (atomsAll atoms n)
   unfolding atomsFrom
   atoms-done h =
       records-done (recordBytes sheetWidth) (atomNumber sheetWidth) wordAtom atoms n first at (atomsAll atoms n) sheet i left h
@@ -142,7 +140,7 @@ module _ (q : QueryWords) (four : length (q .answers) ≡ 4) (eight : length (q 
 
   pub question-long : 1 + 3 * q .terms + 6 * q .size ≡ length (packQuery sheetWidth (queryOf q))
   question-long =
-      sym (length-question sheetWidth whole-bytes (queryOf q) ∙ ap₂ (λ j k. 1 + 3 * j + 6 * k) terms-counted atoms-counted)
+      sym (length-question sheetWidth whole-sheet (queryOf q) ∙ ap₂ (λ j k. 1 + 3 * j + 6 * k) terms-counted atoms-counted)
 
   pub question-short : 1 + 3 * q .terms + 6 * q .size ≤ mostQuestionBytes sheetWidth
   question-short =
@@ -188,7 +186,7 @@ module _ (q : QueryWords) (four : length (q .answers) ≡ 4) (eight : length (q 
     pub counts-room : at + 1 ≤ length first
     counts-room = let l = ends in omega arith
 
-    module _ (one : List ℕ) (x : ℕ) (e : one ≡ placed first at (bytesOf 1 x)) where
+    module _ (one : List ℕ) (x : ℕ) (e : one ≡ putAt first at (bytesOf 1 x)) where
       one-long : length one ≡ length first
       one-long = number-long first one at 1 x e counts-room
 
@@ -198,12 +196,12 @@ module _ (q : QueryWords) (four : length (q .answers) ≡ 4) (eight : length (q 
           let d = one-long in
           omega arith
 
-      module _ (two : List ℕ) (g : two ≡ placed one (at + 1) (answersAll (q .answers) (q .terms))) where
+      module _ (two : List ℕ) (g : two ≡ putAt one (at + 1) (answersAll (q .answers) (q .terms))) where
         two-long : length two ≡ length first
         two-long =
             let l = answers-long in
             let r = answers-room in
-            ap length g ∙ placed-length one (at + 1) (answersAll (q .answers) (q .terms)) (omega arith) ∙ one-long
+            ap length g ∙ put-length one (at + 1) (answersAll (q .answers) (q .terms)) (omega arith) ∙ one-long
 
         pub atoms-room : at + 1 + 3 * q .terms + 6 * q .size ≤ length two
         atoms-room =
@@ -211,8 +209,8 @@ module _ (q : QueryWords) (four : length (q .answers) ≡ 4) (eight : length (q 
             let d = two-long in
             omega arith
 
-        module _ (three : List ℕ) (h : three ≡ placed two (at + 1 + 3 * q .terms) (atomsAll (q .atoms) (q .size))) where
-          parts-put : three ≡ placed first at (bytesOf 1 x ++ (answersAll (q .answers) (q .terms) ++ atomsAll (q .atoms) (q .size)))
+        module _ (three : List ℕ) (h : three ≡ putAt two (at + 1 + 3 * q .terms) (atomsAll (q .atoms) (q .size))) where
+          parts-put : three ≡ putAt first at (bytesOf 1 x ++ (answersAll (q .answers) (q .terms) ++ atomsAll (q .atoms) (q .size)))
           parts-put =
               let c : List ℕ = bytesOf 1 x in
               let a : List ℕ = answersAll (q .answers) (q .terms) in
@@ -223,23 +221,23 @@ module _ (q : QueryWords) (four : length (q .answers) ≡ 4) (eight : length (q 
               let rc : at + 1 ≤ length first = counts-room in
               let ea : at + 1 + 3 * q .terms ≡ at + 1 + length a = omega arith in
               let ec : at + 1 ≡ at + length c = omega arith in
-              h ∙ ap₂ (λ s k. placed s k b) g ea ∙ placed-then one (at + 1) a (omega arith) b
-              ∙ ap₂ (λ s k. placed s k (a ++ b)) e ec ∙ placed-then first at c (omega arith) (a ++ b)
+              h ∙ ap₂ (λ s k. putAt s k b) g ea ∙ put-then one (at + 1) a (omega arith) b
+              ∙ ap₂ (λ s k. putAt s k (a ++ b)) e ec ∙ put-then first at c (omega arith) (a ++ b)
 
-          pub question-put : x ≡ q .terms * 16 + q .size → three ≡ placed first at (packQuery sheetWidth (queryOf q))
+          pub question-put : x ≡ q .terms * 16 + q .size → three ≡ putAt first at (packQuery sheetWidth (queryOf q))
           question-put d =
-              parts-put ∙ ap (λ n. placed first at (bytesOf 1 n ++ (answersAll (q .answers) (q .terms) ++ atomsAll (q .atoms) (q .size)))) d
-              ∙ ap (placed first at) packed
+              parts-put ∙ ap (λ n. putAt first at (bytesOf 1 n ++ (answersAll (q .answers) (q .terms) ++ atomsAll (q .atoms) (q .size)))) d
+              ∙ ap (putAt first at) packed
 
           pub question-same : length three ≡ length first
           question-same =
               let l : length (atomsAll (q .atoms) (q .size)) ≡ 6 * q .size = atoms-long in
               let r : at + 1 + 3 * q .terms + 6 * q .size ≤ length two = atoms-room in
-              ap length h ∙ placed-length two (at + 1 + 3 * q .terms) (atomsAll (q .atoms) (q .size)) (omega arith) ∙ two-long
+              ap length h ∙ put-length two (at + 1 + 3 * q .terms) (atomsAll (q .atoms) (q .size)) (omega arith) ∙ two-long
 
 pub ruleset recordLaws = (
   needs,
-  left-same,
+  remaining-same,
   word-below,
   answers-begin,
   answer-next,

@@ -15,8 +15,8 @@ use Rattle.words.specs.Rows.{memberIn}
 use Rattle.words.specs.Laws.Rows.{rows}
 use Rattle.sheets.specs.Packing.{bytesOf, packQuery, packUnion, unionSheet}
 use Rattle.sheets.specs.Laws.PackingBytes.{length-bytesOf, length-number}
-use Rattle.write_sheet.specs.Placed.{placed, membersBytes}
-use Rattle.write_sheet.proofs.PlacedLaws.{placed-length, placed-before, placed-then}
+use Rattle.write_sheet.specs.PutAt.{putAt, membersBytes}
+use Rattle.write_sheet.proofs.PutLaws.{put-length, put-before, put-then}
 use Rattle.write_sheet.proofs.NumberLaws.{number-long}
 use Rattle.write_sheet.proofs.MemberLaws.{membersFrom, member-long, members-all, members-nil, members-length}
 
@@ -57,7 +57,7 @@ module _ (table : List ℕ) (n : ℕ) where
     pub count-room : 0 + 2 ≤ length first
     count-room = let l = union-long in omega arith
 
-    module _ (one : List ℕ) (e : one ≡ placed first 0 (bytesOf 2 n)) where
+    module _ (one : List ℕ) (e : one ≡ putAt first 0 (bytesOf 2 n)) where
       one-long : length one ≡ length first
       one-long = number-long first one 0 2 n e count-room
 
@@ -67,20 +67,20 @@ module _ (table : List ℕ) (n : ℕ) where
           let d = one-long in
           omega arith
 
-      module _ (two : List ℕ) (end : ℕ) (g : two ≡ placed one 2 (membersBytes table n)) (h : end ≡ 2 + length (membersBytes table n)) where
-        union-put : two ≡ placed first 0 union
+      module _ (two : List ℕ) (end : ℕ) (g : two ≡ putAt one 2 (membersBytes table n)) (h : end ≡ 2 + length (membersBytes table n)) where
+        union-put : two ≡ putAt first 0 union
         union-put =
             let l : length (bytesOf 2 n) ≡ 2 = length-bytesOf 2 n in
             let r : 0 + 2 ≤ length first = count-room in
             let s : 2 ≡ 0 + length (bytesOf 2 n) = omega arith in
-            g ∙ ap₂ (λ t k. placed t k (membersBytes table n)) e s
-            ∙ placed-then first 0 (bytesOf 2 n) (omega arith) (membersBytes table n) ∙ ap (placed first 0) packed
+            g ∙ ap₂ (λ t k. putAt t k (membersBytes table n)) e s
+            ∙ put-then first 0 (bytesOf 2 n) (omega arith) (membersBytes table n) ∙ ap (putAt first 0) packed
 
         long : 0 + length union ≤ length first
         long = omega arith
 
         pub two-long : length two ≡ length first
-        two-long = ap length union-put ∙ placed-length first 0 union long
+        two-long = ap length union-put ∙ put-length first 0 union long
 
         pub end-within : end ≤ length two
         end-within =
@@ -92,7 +92,7 @@ module _ (table : List ℕ) (n : ℕ) where
         front =
             let l = union-long in
             let s : end ≡ 0 + length union = omega arith in
-            ap₂ take s union-put ∙ placed-before first 0 union long
+            ap₂ take s union-put ∙ put-before first 0 union long
 
         module _ (k : ℕ) (d : k ≡ length two - end) (part : List ℕ) (c : part ≡ replicate (length (take k (drop end two))) 0) where
           nothing-after : drop k (drop end two) ≡ []

@@ -4,8 +4,8 @@ pub mod questions;
 
 use answer_bytes::moves::clear;
 use numbers::put_number;
+use questions::packed_length;
 use questions::put_question;
-use questions::question_length;
 use words::limits::COUNT_BYTES;
 use words::limits::MEMBER_WORDS;
 use words::limits::STEP_BYTES;
@@ -17,7 +17,7 @@ ghost use Rattle.words.specs.Limits.{sheetWidth, mostMembers, mostUnionBytes, c
 ghost use Rattle.words.specs.Words.{unionIn, stride};
 ghost use Rattle.words.specs.Rows.{Row, Rows, rowAt, memberIn};
 ghost use Rattle.sheets.specs.Packing.{packMember, packUnion, unionSheet};
-ghost use Rattle.write_sheet.specs.Placed.{placed, membersBytes};
+ghost use Rattle.write_sheet.specs.PutAt.{putAt, membersBytes};
 
 // How many bytes the union in the table's first n rows has when it is packed.
 pub fn union_length(table: &[u64], n: usize) -> usize
@@ -27,7 +27,7 @@ pub fn union_length(table: &[u64], n: usize) -> usize
     let mut total: usize = COUNT_BYTES;
     let mut j: usize = 0;
     while j < n {
-        total += STEP_BYTES + question_length(load(table, j));
+        total += STEP_BYTES + packed_length(load(table, j));
         j += 1;
     }
     total
@@ -37,20 +37,20 @@ pub fn union_length(table: &[u64], n: usize) -> usize
 fn put_member(table: &[u64], j: usize, sheet: &mut [u8], at: usize) -> usize
     requires { ⌜ (stride * j + stride ≤ length (now table)) × Row (rowAt (now table) j)
         × (at + length (packMember sheetWidth (memberIn (now table) j)) ≤ length (now sheet)) ⌝ }
-    ensures { λ r. ⌜ (now (sheet .exit) ≡ placed (now (sheet .entry)) at (packMember sheetWidth (memberIn (now (table .entry)) j)))
+    ensures { λ r. ⌜ (now (sheet .exit) ≡ putAt (now (sheet .entry)) at (packMember sheetWidth (memberIn (now (table .entry)) j)))
         × (r ≡ at + length (packMember sheetWidth (memberIn (now (table .entry)) j))) ⌝ }
 {
     let q = load(table, j);
     let from = at + STEP_BYTES;
     put_number(sheet, at, STEP_BYTES, table[MEMBER_WORDS * j] % 0x100000000);
     put_question(sheet, from, q);
-    from + question_length(q)
+    from + packed_length(q)
 }
 
 // Puts the members in the table's first n rows behind the count, one after another. Gives where the last one ends.
 fn put_members(table: &[u64], n: usize, sheet: &mut [u8]) -> usize
     requires { ⌜ Rows (now table) n × (countBytes + length (membersBytes (now table) n) ≤ length (now sheet)) ⌝ }
-    ensures { λ r. ⌜ (now (sheet .exit) ≡ placed (now (sheet .entry)) countBytes (membersBytes (now (table .entry)) n))
+    ensures { λ r. ⌜ (now (sheet .exit) ≡ putAt (now (sheet .entry)) countBytes (membersBytes (now (table .entry)) n))
         × (r ≡ countBytes + length (membersBytes (now (table .entry)) n)) ⌝ }
 {
     let mut at: usize = COUNT_BYTES;

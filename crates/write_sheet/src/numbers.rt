@@ -12,7 +12,7 @@ ghost use lib.ListN.{length};
 ghost use Rattle.words.specs.Limits.{sheetWidth, wordTermBound, answerBytes, recordBytes};
 ghost use Rattle.words.specs.Words.{wordTerm, wordAtom};
 ghost use Rattle.sheets.specs.Packing.{bytesOf, termNumber, atomNumber};
-ghost use Rattle.write_sheet.specs.Placed.{placed, answerRecord, atomRecord};
+ghost use Rattle.write_sheet.specs.PutAt.{putAt, answerRecord, atomRecord};
 
 // The number of a term on a sheet, from its word: whether it is an object, and 16 bits.
 fn narrow_term(t: u64) -> u64
@@ -38,7 +38,7 @@ fn narrow_atom(a: u64) -> u64
 // Puts so many bytes of a number at `at`, the most significant first.
 pub fn put_number(sheet: &mut [u8], at: usize, size: usize, number: u64)
     requires { ⌜ at + size ≤ length (now sheet) ⌝ }
-    ensures { λ _. ⌜ now (sheet .exit) ≡ placed (now (sheet .entry)) at (bytesOf size number) ⌝ }
+    ensures { λ _. ⌜ now (sheet .exit) ≡ putAt (now (sheet .entry)) at (bytesOf size number) ⌝ }
 {
     let mut rest = number;
     let mut k = size;
@@ -52,7 +52,7 @@ pub fn put_number(sheet: &mut [u8], at: usize, size: usize, number: u64)
 // Puts the answer term of a word at `at`.
 pub fn put_answer(sheet: &mut [u8], at: usize, t: u64)
     requires { ⌜ (t < wordTermBound) × (at + answerBytes sheetWidth ≤ length (now sheet)) ⌝ }
-    ensures { λ _. ⌜ now (sheet .exit) ≡ placed (now (sheet .entry)) at (answerRecord t) ⌝ }
+    ensures { λ _. ⌜ now (sheet .exit) ≡ putAt (now (sheet .entry)) at (answerRecord t) ⌝ }
 {
     put_number(sheet, at, ANSWER_BYTES, narrow_term(t));
 }
@@ -60,7 +60,7 @@ pub fn put_answer(sheet: &mut [u8], at: usize, t: u64)
 // Puts the atom of a word at `at`.
 pub fn put_atom(sheet: &mut [u8], at: usize, a: u64)
     requires { ⌜ at + recordBytes sheetWidth ≤ length (now sheet) ⌝ }
-    ensures { λ _. ⌜ now (sheet .exit) ≡ placed (now (sheet .entry)) at (atomRecord a) ⌝ }
+    ensures { λ _. ⌜ now (sheet .exit) ≡ putAt (now (sheet .entry)) at (atomRecord a) ⌝ }
 {
     put_number(sheet, at, ATOM_BYTES, narrow_atom(a));
 }

@@ -14,10 +14,10 @@ ghost use lib.ListN.{length, take};
 ghost use Rattle.words.specs.Limits.{sheetWidth, mostTerms, mostAtoms, answerBytes, recordBytes, mostQuestionBytes};
 ghost use Rattle.words.specs.Words.{TermWords, queryOf, Small, wordTerm, wordAtom};
 ghost use Rattle.sheets.specs.Packing.{packQuery};
-ghost use Rattle.write_sheet.specs.Placed.{placed, answersBytes, atomsBytes};
+ghost use Rattle.write_sheet.specs.PutAt.{putAt, answersBytes, atomsBytes};
 
 // How many bytes a question has.
-pub fn question_length(q: QueryWords) -> usize
+pub fn packed_length(q: QueryWords) -> usize
     requires { ⌜ Small q ⌝ }
     ensures { λ r. ⌜ (r ≡ length (packQuery sheetWidth (queryOf q))) × (r ≤ mostQuestionBytes sheetWidth) ⌝ }
 {
@@ -27,7 +27,7 @@ pub fn question_length(q: QueryWords) -> usize
 // Puts the first n answer terms at `at`.
 fn put_answers(sheet: &mut [u8], at: usize, answers: [u64; MOST_TERMS], n: usize)
     requires { ⌜ (n ≤ mostTerms) × TermWords answers × (at + answerBytes sheetWidth * n ≤ length (now sheet)) ⌝ }
-    ensures { λ _. ⌜ now (sheet .exit) ≡ placed (now (sheet .entry)) at (answersBytes sheetWidth (map wordTerm (take n answers))) ⌝ }
+    ensures { λ _. ⌜ now (sheet .exit) ≡ putAt (now (sheet .entry)) at (answersBytes sheetWidth (map wordTerm (take n answers))) ⌝ }
 {
     let mut i: usize = 0;
     while i < n {
@@ -39,7 +39,7 @@ fn put_answers(sheet: &mut [u8], at: usize, answers: [u64; MOST_TERMS], n: usize
 // Puts the first n atoms at `at`.
 fn put_atoms(sheet: &mut [u8], at: usize, atoms: [u64; MOST_ATOMS], n: usize)
     requires { ⌜ (n ≤ mostAtoms) × (at + recordBytes sheetWidth * n ≤ length (now sheet)) ⌝ }
-    ensures { λ _. ⌜ now (sheet .exit) ≡ placed (now (sheet .entry)) at (atomsBytes sheetWidth (map wordAtom (take n atoms))) ⌝ }
+    ensures { λ _. ⌜ now (sheet .exit) ≡ putAt (now (sheet .entry)) at (atomsBytes sheetWidth (map wordAtom (take n atoms))) ⌝ }
 {
     let mut i: usize = 0;
     while i < n {
@@ -51,7 +51,7 @@ fn put_atoms(sheet: &mut [u8], at: usize, atoms: [u64; MOST_ATOMS], n: usize)
 // Puts a question at `at`: the two counts in one byte, then the answer terms, then the atoms.
 pub fn put_question(sheet: &mut [u8], at: usize, q: QueryWords)
     requires { ⌜ Small q × (at + length (packQuery sheetWidth (queryOf q)) ≤ length (now sheet)) ⌝ }
-    ensures { λ _. ⌜ now (sheet .exit) ≡ placed (now (sheet .entry)) at (packQuery sheetWidth (queryOf q)) ⌝ }
+    ensures { λ _. ⌜ now (sheet .exit) ≡ putAt (now (sheet .entry)) at (packQuery sheetWidth (queryOf q)) ⌝ }
 {
     let answers = q.answers;
     let atoms = q.atoms;

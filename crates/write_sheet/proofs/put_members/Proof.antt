@@ -3,8 +3,8 @@ use mathlib.Core.Path.{_≡_}
 use Prim.Native.Nat.{_+_, _-_, _≤_}
 use lib.ListN.{length}
 use Rattle.words.specs.Limits.{countBytes}
-use Rattle.write_sheet.specs.Placed.{membersBytes}
-use Rattle.write_sheet.proofs.PlacedLaws.{Left}
+use Rattle.write_sheet.specs.PutAt.{membersBytes}
+use Rattle.write_sheet.proofs.PutLaws.{Remaining}
 use Rattle.write_sheet.proofs.MemberLaws.{membersFrom, loopLaws}
 use Rattle.write_sheet.proofs.put_members.Statement.{statement}
 use Rattle.write_sheet.proofs.put_members.Tie as tie
@@ -12,7 +12,7 @@ use Rattle.write_sheet.proofs.put_members.Tie as tie
 abbrev Inv-loop : tie.InvT-loop
 Inv-loop table n sheet₀ at₀ j₀ sheet at j =
     (j ≤ n) × (at + length (membersFrom table n j) ≡ countBytes + length (membersBytes table n))
-    × Left sheet₀ countBytes (membersBytes table n) sheet at (membersFrom table n j)
+    × Remaining sheet₀ countBytes (membersBytes table n) sheet at (membersFrom table n j)
 
 abbrev μ-loop : tie.MeasureT-loop
 μ-loop table n sheet₀ at₀ j₀ sheet at j = n - j

@@ -4,8 +4,8 @@ use Prim.Native.Nat.{_+_, _-_, _*_, _≤_}
 use lib.ListN.{take}
 use Rattle.words.specs.Limits.{sheetWidth, answerBytes}
 use Rattle.words.specs.Words.{wordTerm}
-use Rattle.write_sheet.specs.Placed.{answersBytes}
-use Rattle.write_sheet.proofs.PlacedLaws.{Left}
+use Rattle.write_sheet.specs.PutAt.{answersBytes}
+use Rattle.write_sheet.proofs.PutLaws.{Remaining}
 use Rattle.write_sheet.proofs.QuestionLaws.{answersFrom, recordLaws}
 use Rattle.write_sheet.proofs.questions.put_answers.Statement.{statement}
 use Rattle.write_sheet.proofs.questions.put_answers.Tie as tie
@@ -13,7 +13,7 @@ use Rattle.write_sheet.proofs.questions.put_answers.Tie as tie
 abbrev Inv-loop : tie.InvT-loop
 Inv-loop sheet₀ at n answers i₀ sheet i =
     (i ≤ n)
-    × Left sheet₀ at (answersBytes sheetWidth (map wordTerm (take n answers))) sheet (at + answerBytes sheetWidth * i)
+    × Remaining sheet₀ at (answersBytes sheetWidth (map wordTerm (take n answers))) sheet (at + answerBytes sheetWidth * i)
     (answersFrom answers n i)
 
 abbrev μ-loop : tie.MeasureT-loop

@@ -4,8 +4,8 @@ use Prim.Native.Nat.{_+_, _-_, _*_, _≤_}
 use lib.ListN.{take}
 use Rattle.words.specs.Limits.{sheetWidth, recordBytes}
 use Rattle.words.specs.Words.{wordAtom}
-use Rattle.write_sheet.specs.Placed.{atomsBytes}
-use Rattle.write_sheet.proofs.PlacedLaws.{Left}
+use Rattle.write_sheet.specs.PutAt.{atomsBytes}
+use Rattle.write_sheet.proofs.PutLaws.{Remaining}
 use Rattle.write_sheet.proofs.QuestionLaws.{atomsFrom, recordLaws}
 use Rattle.write_sheet.proofs.questions.put_atoms.Statement.{statement}
 use Rattle.write_sheet.proofs.questions.put_atoms.Tie as tie
@@ -13,7 +13,7 @@ use Rattle.write_sheet.proofs.questions.put_atoms.Tie as tie
 abbrev Inv-loop : tie.InvT-loop
 Inv-loop sheet₀ at n atoms i₀ sheet i =
     (i ≤ n)
-    × Left sheet₀ at (atomsBytes sheetWidth (map wordAtom (take n atoms))) sheet (at + recordBytes sheetWidth * i)
+    × Remaining sheet₀ at (atomsBytes sheetWidth (map wordAtom (take n atoms))) sheet (at + recordBytes sheetWidth * i)
     (atomsFrom atoms n i)
 
 abbrev μ-loop : tie.MeasureT-loop

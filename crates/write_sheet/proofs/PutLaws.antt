@@ -6,16 +6,16 @@ use native.Mathlib.Omega.{arith}
 use mathlib.Core.List.{List, [], _∷_, _++_, append-assoc}
 use lib.ListN.{length, take, drop, set, take-append-drop, length-append, length-drop}
 use lib.Seq.{length-take-le, take-at, drop-at, drop-drop, append-snoc, set-split, take-set-le}
-use Rattle.write_sheet.specs.Placed.{placed}
+use Rattle.write_sheet.specs.PutAt.{putAt}
 
 -- as it is defined
-opens : (s : List ℕ) (at : ℕ) (xs : List ℕ) → placed s at xs ≡ take at s ++ (xs ++ drop (at + length xs) s)
-unfolding placed
+opens : (s : List ℕ) (at : ℕ) (xs : List ℕ) → putAt s at xs ≡ take at s ++ (xs ++ drop (at + length xs) s)
+unfolding putAt
 opens s at xs = refl
 
-pub placed-nil : (s : List ℕ) (at : ℕ) → placed s at [] ≡ s
-unfolding placed
-placed-nil s at = ap (λ k. take at s ++ drop k s) (add-zero at) ∙ take-append-drop at s
+pub put-nil : (s : List ℕ) (at : ℕ) → putAt s at [] ≡ s
+unfolding putAt
+put-nil s at = ap (λ k. take at s ++ drop k s) (add-zero at) ∙ take-append-drop at s
 
 module _ (s : List ℕ) (at : ℕ) (xs : List ℕ) (room : at + length xs ≤ length s) where
   front : length (take at s) ≡ at
@@ -24,42 +24,42 @@ module _ (s : List ℕ) (at : ℕ) (xs : List ℕ) (room : at + length xs ≤ le
   end : length (take at s ++ xs) ≡ at + length xs
   end = length-append (take at s) xs ∙ ap (λ k. k + length xs) front
 
-  regrouped : placed s at xs ≡ take at s ++ xs ++ drop (at + length xs) s
-  unfolding placed
+  regrouped : putAt s at xs ≡ take at s ++ xs ++ drop (at + length xs) s
+  unfolding putAt
   regrouped = sym (append-assoc (take at s) xs (drop (at + length xs) s))
 
-  pub placed-length : length (placed s at xs) ≡ length s
-  placed-length =
+  pub put-length : length (putAt s at xs) ≡ length s
+  put-length =
       ap length regrouped ∙ length-append (take at s ++ xs) (drop (at + length xs) s)
       ∙ ap₂ _+_ end (length-drop (at + length xs) s) ∙ omega arith
 
   -- what stands before the end of the bytes, and what behind it
-  pub placed-before : take (at + length xs) (placed s at xs) ≡ take at s ++ xs
-  placed-before =
+  pub put-before : take (at + length xs) (putAt s at xs) ≡ take at s ++ xs
+  put-before =
       ap (take (at + length xs)) regrouped ∙ take-at (take at s ++ xs) (drop (at + length xs) s) (at + length xs) end
 
-  pub placed-behind : drop (at + length xs) (placed s at xs) ≡ drop (at + length xs) s
-  placed-behind =
+  pub put-behind : drop (at + length xs) (putAt s at xs) ≡ drop (at + length xs) s
+  put-behind =
       ap (drop (at + length xs)) regrouped ∙ drop-at (take at s ++ xs) (drop (at + length xs) s) (at + length xs) end
 
   -- other bytes put behind them
-  pub placed-then : (ys : List ℕ) → placed (placed s at xs) (at + length xs) ys ≡ placed s at (xs ++ ys)
-  placed-then ys =
+  pub put-then : (ys : List ℕ) → putAt (putAt s at xs) (at + length xs) ys ≡ putAt s at (xs ++ ys)
+  put-then ys =
       let i : ℕ = at + length xs in
-      let later : drop (i + length ys) (placed s at xs) ≡ drop (i + length ys) s =
-      sym (drop-drop (length ys) i (placed s at xs)) ∙ ap (drop (length ys)) placed-behind ∙ drop-drop (length ys) i s in
+      let later : drop (i + length ys) (putAt s at xs) ≡ drop (i + length ys) s =
+      sym (drop-drop (length ys) i (putAt s at xs)) ∙ ap (drop (length ys)) put-behind ∙ drop-drop (length ys) i s in
       let e : length (xs ++ ys) ≡ length xs + length ys = length-append xs ys in
       let d : i + length ys ≡ at + length (xs ++ ys) = omega arith in
-      opens (placed s at xs) i ys ∙ ap₂ (λ a b. a ++ (ys ++ b)) placed-before later
+      opens (putAt s at xs) i ys ∙ ap₂ (λ a b. a ++ (ys ++ b)) put-before later
       ∙ append-assoc (take at s) xs (ys ++ drop (i + length ys) s)
       ∙ ap (λ l. take at s ++ l) (sym (append-assoc xs ys (drop (i + length ys) s)) ∙ ap (λ k. xs ++ ys ++ drop k s) d)
       ∙ sym (opens s at (xs ++ ys))
 
 -- one byte put behind where they will stand
-pub placed-set : (s : List ℕ) (at : ℕ) (xs : List ℕ) (b : ℕ) → at + length xs < length s
-    → placed (set s (at + length xs) b) at xs ≡ placed s at (xs ++ (b ∷ []))
-unfolding placed
-placed-set s at xs b room =
+pub put-set : (s : List ℕ) (at : ℕ) (xs : List ℕ) (b : ℕ) → at + length xs < length s
+    → putAt (set s (at + length xs) b) at xs ≡ putAt s at (xs ++ (b ∷ []))
+unfolding putAt
+put-set s at xs b room =
     let i : ℕ = at + length xs in
     let e : length (xs ++ (b ∷ [])) ≡ length xs + 1 = length-append xs (b ∷ []) in
     let d : suc i ≡ at + length (xs ++ (b ∷ [])) = omega arith in
@@ -69,24 +69,25 @@ placed-set s at xs b room =
     ∙ ap (λ l. take at s ++ l) (sym (append-snoc xs b (drop (suc i) s)) ∙ ap (λ k. xs ++ (b ∷ []) ++ drop k s) d)
 
 -- A loop that puts bytes: what is left, put where it belongs, makes the sheet that is promised, in which all of it stands from `start` on.
-pub record Left (first : List ℕ) (start : ℕ) (whole sheet : List ℕ) (at : ℕ) (rest : List ℕ) : Type 0 where
+pub record Remaining (first : List ℕ) (start : ℕ) (whole sheet : List ℕ) (at : ℕ) (rest : List ℕ) : Type 0 where
   pub same : length sheet ≡ length first
-  pub makes : placed sheet at rest ≡ placed first start whole
+  pub makes : putAt sheet at rest ≡ putAt first start whole
 
-module _ (first : List ℕ) (start : ℕ) (whole sheet : List ℕ) (at : ℕ) (rest : List ℕ) (left : Left first start whole sheet at rest) where
-  pub left-same : length sheet ≡ length first
-  left-same = left .same
+module _ (first : List ℕ) (start : ℕ) (whole sheet : List ℕ) (at : ℕ) (rest : List ℕ)
+    (left : Remaining first start whole sheet at rest) where
+  pub remaining-same : length sheet ≡ length first
+  remaining-same = left .same
 
   -- the next bytes put
-  pub left-next : (xs later ys : List ℕ) (to : ℕ) → rest ≡ xs ++ ys → to ≡ at + length xs → to ≤ length first → later ≡ placed sheet at xs
-      → Left first start whole later to ys
-  left-next xs later ys to parts end room e =
+  pub remaining-next : (xs later ys : List ℕ) (to : ℕ) → rest ≡ xs ++ ys → to ≡ at + length xs → to ≤ length first
+      → later ≡ putAt sheet at xs → Remaining first start whole later to ys
+  remaining-next xs later ys to parts end room e =
       let s : length sheet ≡ length first = left .same in
       let r : at + length xs ≤ length sheet = omega arith in
       record {
-        same = ap length e ∙ placed-length sheet at xs r ∙ s;
-        makes = ap₂ (λ l k. placed l k ys) e end ∙ placed-then sheet at xs r ys ∙ ap (placed sheet at) (sym parts) ∙ left .makes;
+        same = ap length e ∙ put-length sheet at xs r ∙ s;
+        makes = ap₂ (λ l k. putAt l k ys) e end ∙ put-then sheet at xs r ys ∙ ap (putAt sheet at) (sym parts) ∙ left .makes;
       }
 
-  pub left-done : rest ≡ [] → sheet ≡ placed first start whole
-  left-done e = sym (placed-nil sheet at) ∙ ap (placed sheet at) (sym e) ∙ left .makes
+  pub remaining-done : rest ≡ [] → sheet ≡ putAt first start whole
+  remaining-done e = sym (put-nil sheet at) ∙ ap (putAt sheet at) (sym e) ∙ left .makes

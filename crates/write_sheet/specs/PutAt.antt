@@ -9,8 +9,8 @@ use Rattle.words.specs.Words.{wordTerm, wordAtom, unionIn}
 use Rattle.sheets.specs.Packing.{bytesOf, packRecords, fieldsNumber, termNumber, atomNumber, packMember}
 
 -- the bytes stand from index `at` on, and all others are as they were
-unfoldable pub placed : List ℕ → ℕ → List ℕ → List ℕ
-placed s at bytes = take at s ++ (bytes ++ drop (at + length bytes) s)
+unfoldable pub putAt : List ℕ → ℕ → List ℕ → List ℕ
+putAt s at bytes = take at s ++ (bytes ++ drop (at + length bytes) s)
 
 -- the bytes of a word's answer term, and of a word's atom, on a sheet
 unfoldable pub answerRecord : ℕ → List ℕ
