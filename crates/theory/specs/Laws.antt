@@ -25,6 +25,8 @@ pub mod Merging
 pub mod Rules
 pub mod RespectRules
 pub mod Respect
+-- what every step keeps
+pub mod StepShape
 -- accepted unions
 pub mod WrittenStep
 pub mod UnionTests

@@ -2,7 +2,7 @@
 use mathlib.Core.Path.{_≡_, refl, sym, ap, ap₂, _∙_, subst}
 use mathlib.Core.Logic.{inl, inr, _⊎_, _↔_, _≢_}
 use Prim.Native.Nat.{ℕ, zero, suc, _+_, _≤_, _<_, max, zero-le, suc-le-suc}
-use native.Mathlib.Nat.{le-refl, eq-or-lt-of-le}
+use native.Mathlib.Nat.{le-refl, le-trans, eq-or-lt-of-le}
 use native.Mathlib.Decide.{ℕ-discrete}
 use native.Mathlib.Omega.{arith}
 use mathlib.Core.Bool.{Bool, true, false, _||_, or-assoc}
@@ -147,6 +147,24 @@ module _ {X : Type 0} where
         | true ↦ without-unrepeated p xs (u .1)
         | false ↦ (λ m. u .0 (mem-without p xs m .0), without-unrepeated p xs (u .1))
       ]
+
+  -- no more than before, and some if there were some
+  without-few : (p : X → Bool) (xs : List X) → length (without p xs) ≤ length xs
+  unfolding without
+  without-few p [] = zero-le
+  without-few p (x ∷ xs) =
+      let h : length (without p xs) ≤ length xs = without-few p xs in
+      elim (p x) as (λ b. length (pick b (without p xs) (x ∷ without p xs)) ≤ suc (length xs)) [ true ↦ omega arith | false ↦ suc-le-suc h ]
+
+  pub once-few : (same : X → X → Bool) (xs : List X) → length (once same xs) ≤ length xs
+  unfolding once
+  once-few same [] = zero-le
+  once-few same (x ∷ xs) = suc-le-suc (le-trans (without-few (same x) (once same xs)) (once-few same xs))
+
+  pub once-some : (same : X → X → Bool) (xs : List X) → 1 ≤ length xs → 1 ≤ length (once same xs)
+  unfolding once
+  once-some same [] h = h
+  once-some same (x ∷ xs) h = suc-le-suc zero-le
 
   -- where a test decides equality
   module _ (same : X → X → Bool) (same-iff : (x y : X) → T (same x y) ↔ (x ≡ y)) where

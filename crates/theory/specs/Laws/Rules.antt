@@ -69,6 +69,10 @@ oriented-args true P Q x y z m =
       | inr n ↦ List·Memᴰ·head (List·Memᴰ·eq-of-singleton n)
     ]
 
+args-oriented : {X : Type 0} (b : Bool) (P Q : ℕ) (x y z : X) → z ∈ args (role Q x y) → z ∈ args (oriented b P x y)
+args-oriented false P Q x y z m = m
+args-oriented true P Q x y z m = oriented-args true Q P y x z m
+
 -- an atom whose image is a description's instance is one itself
 instance-image : {X Y : Type 0} (f : X → Y) (B : Basic) (a : Atom X) (x y : Y) → mapAtom f a ≡ instance B x y
     → (s t : X) × (a ≡ instance B s t) × (f s ≡ x) × (Plain B ⊎ ((¬ Plain B) × (f t ≡ y)))
@@ -363,3 +367,73 @@ module _ (p q : Query) (f g : Term → Term) (keeps : (t : Term) → T (unbound 
             ∙ sym (mapAtom-agree g f b (λ x k. agree x (within x k)))),
         λ x k. inl (within x k),
       )
+
+-- ---- what a rule makes of an atom is said by the rule's left side, of the atom's terms and the fresh variable
+
+-- names of concepts and names of roles of which something holds
+module _ (IsConcept IsRole : ℕ → Type 0) where
+  -- the name of a description, the name on the left side of a rule
+  abbrev pub BasicOf : Basic → Type 0
+  BasicOf (named A) = IsConcept A
+  BasicOf (has P) = IsRole P
+  BasicOf (hasInverse P) = IsRole P
+
+  abbrev pub LeftOf : Rule → Type 0
+  LeftOf (conceptInclusion left right) = BasicOf left
+  LeftOf (roleInclusion left exchanged right) = IsRole left
+
+  -- what holds of every name
+  basic-any : ((n : ℕ) → IsConcept n) → ((n : ℕ) → IsRole n) → (B : Basic) → BasicOf B
+  basic-any c h (named A) = c A
+  basic-any c h (has P) = h P
+  basic-any c h (hasInverse P) = h P
+
+  pub left-any : ((n : ℕ) → IsConcept n) → ((n : ℕ) → IsRole n) → (r : Rule) → LeftOf r
+  left-any c h (conceptInclusion left right) = basic-any c h left
+  left-any c h (roleInclusion left exchanged right) = h left
+
+  -- an atom with such a name over terms of which something holds
+  module _ (IsTerm : Term → Type 0) where
+    abbrev pub AtomOf : Atom Term → Type 0
+    AtomOf (concept A t) = IsConcept A × IsTerm t
+    AtomOf (role P t u) = IsRole P × IsTerm t × IsTerm u
+
+    instance-of : (B : Basic) (t u : Term) → BasicOf B → IsTerm t → IsTerm u → AtomOf (instance B t u)
+    instance-of (named A) t u n h k = (n, h)
+    instance-of (has P) t u n h k = (n, h, k)
+    instance-of (hasInverse P) t u n h k = (n, k, h)
+
+    oriented-of : (b : Bool) (P : ℕ) (t u : Term) → IsRole P → IsTerm t → IsTerm u → AtomOf (oriented b P t u)
+    oriented-of false P t u n h k = (n, h, k)
+    oriented-of true P t u n h k = (n, k, h)
+
+    pub rewrite-keeps : (q : Query) (r : Rule) (a b : Atom Term) → LeftOf r → IsTerm (var (fresh q))
+        → ((t : Term) → t ∈ args a → IsTerm t) → rewriteAtom q r a ≡ some b → AtomOf b
+    unfolding rewriteAtom
+    rewrite-keeps q (conceptInclusion left right) a b n new h e =
+        let w = andThen-some (bearer q right a) e in
+        let s = bearer-some q right a (w .1) in
+        let stands : w .0 ∈ args a = subst (λ c. w .0 ∈ args c) (sym (s .1)) (instance-bearer right (w .0) (s .0)) in
+        subst AtomOf (some-inj (w .2)) (instance-of left (w .0) (var (fresh q)) n (h (w .0) stands) new)
+    rewrite-keeps q (roleInclusion left exchanged right) (concept B t) b n new h e = absurd (none≢some e)
+    rewrite-keeps q (roleInclusion left exchanged right) (role Q t u) b n new h e =
+        subst AtomOf (guard-some (eqb right Q) e .1) (oriented-of exchanged left t u n (h t here) (h u (List·Memᴰ·tail here)))
+
+-- an answer variable that stands in the atom stands in what is made of it
+pub rewrite-answer : (q : Query) (r : Rule) (a b : Atom Term) (v : ℕ) → rewriteAtom q r a ≡ some b → var v ∈ q .answers → var v ∈ args a
+    → var v ∈ args b
+unfolding rewriteAtom
+rewrite-answer q (conceptInclusion left right) a b v e answer m =
+    let w = andThen-some (bearer q right a) e in
+    let s = bearer-some q right a (w .1) in
+    let made : instance left (w .0) (var (fresh q)) ≡ b = some-inj (w .2) in
+    elim (instance-args right (w .0) (s .0) (var v) (subst (λ c. var v ∈ args c) (s .1) m)) [
+      | inl d ↦ subst (λ c. var v ∈ args c) made (Memᴰ·cast d (instance-bearer left (w .0) (var (fresh q))))
+      | inr n ↦ elim (s .2) [
+        | inl p ↦ absurd (n .0 p)
+        | inr u ↦ absurd (unbound-answers q v (subst (λ t. T (unbound q t)) (sym (n .1)) (u .1)) answer)
+      ]
+    ]
+rewrite-answer q (roleInclusion left exchanged right) (concept B t) b v e answer m = absurd (none≢some e)
+rewrite-answer q (roleInclusion left exchanged right) (role Q t u) b v e answer m =
+    subst (λ c. var v ∈ args c) (guard-some (eqb right Q) e .1) (args-oriented exchanged left Q t u (var v) m)

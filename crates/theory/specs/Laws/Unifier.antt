@@ -7,13 +7,15 @@ use native.Mathlib.Decide.{ℕ-discrete}
 use native.Mathlib.Omega.{arith}
 use mathlib.Core.Bool.{true, false}
 use mathlib.Core.Option.{none, some}
+use mathlib.Core.List.{List·Memᴰ·tail}
 use lib.Dec.{eqb, leb}
-use Rattle.theory.specs.Lists.{pick}
-use Rattle.theory.specs.Syntax.{Term, var, const, Atom, concept, role, mapAtom, send, subst-term}
+use Rattle.theory.specs.Lists.{_∈_, pick}
+use Rattle.theory.specs.Syntax.{Term, var, const, Atom, concept, role, args, mapAtom, send, subst-term}
 use Rattle.theory.specs.Rewriting.{replace, after, join, bind, unify}
 use Rattle.theory.specs.Union.{Unifiable}
 use Rattle.theory.specs.Laws.Options.{found-pick, found-andThen, T-eqb, pick-some, some-inj, none≢some, guard-some, guard-true}
 use Rattle.theory.specs.Laws.Options.{andThen-some}
+use Rattle.theory.specs.Laws.Lists.{here}
 use Rattle.theory.specs.Laws.Syntax.{update, update-same, update-other, send-subst, subst-var}
 
 -- What holds of what `join` gives: of σ where the terms are one, and of σ with a variable replaced by the other term.
@@ -174,3 +176,40 @@ const-apart c d e = cc
 
 pub unifiable-iff : (a b : Atom Term) → Unifiable a b ↔ ((σ : ℕ → Term) × (unify a b ≡ some σ))
 unifiable-iff a b = (λ u. unify-complete const const-apart a b (u .0) (u .1), λ f. (f .0, unify-equal a b (f .1)))
+
+-- ---- terms of which something holds are replaced by such terms, if it holds of the terms of both atoms
+
+module _ (IsTerm : Term → Type 0) where
+  -- the substitution sends terms of which it holds to terms of which it holds
+  abbrev Keeps : (ℕ → Term) → Type 0
+  Keeps σ = (t : Term) → IsTerm t → IsTerm (subst-term σ t)
+
+  replace-keeps : (v : ℕ) (s : Term) → IsTerm s → Keeps (replace v s)
+  unfolding replace
+  replace-keeps v s h (const c) k = k
+  replace-keeps v s h (var u) k = elim (eqb u v) as (λ b. IsTerm (pick b s (var u))) [ true ↦ h | false ↦ k ]
+
+  after-keeps : (σ : ℕ → Term) (v : ℕ) (s : Term) → IsTerm s → Keeps σ → Keeps (after σ v s)
+  after-keeps σ v s h f t k = subst IsTerm (sym (after-further σ v s t)) (replace-keeps v s h (subst-term σ t) (f t k))
+
+  bind-keeps : (σ : ℕ → Term) (s t : Term) {τ : ℕ → Term} → bind σ s t ≡ some τ → IsTerm s → IsTerm t → Keeps σ → Keeps τ
+  unfolding bind
+  bind-keeps σ s t e h k f =
+      join-by Keeps σ (subst-term σ s) (subst-term σ t) e
+      (λ d. f)
+      (λ v d. after-keeps σ v (subst-term σ t) (f t k) f)
+      (λ v d. after-keeps σ v (subst-term σ s) (f s h) f)
+
+  none-replaced : Keeps var
+  none-replaced t k = subst IsTerm (sym (subst-var t)) k
+
+  pub unify-keeps : (a b : Atom Term) {σ : ℕ → Term} → unify a b ≡ some σ → ((t : Term) → t ∈ args a → IsTerm t)
+      → ((t : Term) → t ∈ args b → IsTerm t) → (t : Term) → IsTerm t → IsTerm (subst-term σ t)
+  unfolding unify
+  unify-keeps (concept A s) (concept B t) e h k = bind-keeps var s t (pick-some (eqb A B) e .1) (h s here) (k t here) none-replaced
+  unify-keeps (concept A s) (role Q t t′) e h k = absurd (none≢some e)
+  unify-keeps (role P s s′) (concept B t) e h k = absurd (none≢some e)
+  unify-keeps (role P s s′) (role Q t t′) e h k =
+      let m = andThen-some (bind var s t) (pick-some (eqb P Q) e .1) in
+      bind-keeps (m .0) s′ t′ (m .2) (h s′ (List·Memᴰ·tail here)) (k t′ (List·Memᴰ·tail here))
+      (bind-keeps var s t (m .1) (h s here) (k t here) none-replaced)
