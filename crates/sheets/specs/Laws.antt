@@ -16,3 +16,4 @@ pub mod PackingQueries
 pub mod PackingUnions
 pub mod ObjectRange
 pub mod TupleOrder
+pub mod StepsInRange

@@ -112,6 +112,19 @@ module _ (partners : List ℕ) where
   pub own-settled : (P : ℕ) → partnerOf partners P ≡ P → Settled P
   own-settled P e = not-higher P (omega arith)
 
+  -- a role that is its own lower is read as it stands, and no role is read as a higher one
+  pub lower-own : (P : ℕ) → lower partners P ≡ P → Settled P
+  lower-own P e = elim (lt-or-le (partnerOf partners P) P) [
+    | inl l ↦ absurd (let d : lower partners P ≡ partnerOf partners P = higher P l .1 in omega arith)
+    | inr l ↦ not-higher P l
+  ]
+
+  pub lower-le : (P : ℕ) → lower partners P ≤ P
+  lower-le P = elim (lt-or-le (partnerOf partners P) P) [
+    | inl l ↦ (let d : lower partners P ≡ partnerOf partners P = higher P l .1 in omega arith)
+    | inr l ↦ (let d : lower partners P ≡ P = not-higher P l .1 in omega arith)
+  ]
+
   pub settled-atom : {X : Type 0} (P : ℕ) → Settled P → (x y : X) → atomAsRead partners (role P x y) ≡ role P x y
   unfolding atomAsRead
   settled-atom P s x y = ap₂ (λ h L. oriented h L x y) (s .0) (s .1)
