@@ -6,63 +6,22 @@ use read_records::refused;
 use read_walk::member_count;
 use read_walk::member_end;
 use read_walk::union_sound;
-use words::QueryWords;
 use words::limits::COUNT_BYTES;
 use words::limits::MEMBER_WORDS;
 use words::limits::STEP_BYTES;
+use words::rows::member_words;
+use words::rows::put_row;
 ghost use mathlib.Core.Path.{_≡_};
 ghost use mathlib.Core.List.{map};
-ghost use Prim.Native.Nat.{_+_, _≤_};
+ghost use Prim.Native.Nat.{_≤_};
 ghost use lib.ListN.{length};
-ghost use lib.Seq.{paste};
 ghost use Rattle.theory.specs.Lists.{numbers};
-ghost use Rattle.words.specs.Limits.{sheetWidth, mostTerms, mostAtoms, mostMembers, mostUnionBytes};
-ghost use Rattle.words.specs.Records.{stepOf};
-ghost use Rattle.words.specs.Words.{TermWords, queryOf, unionIn, stride, tableWords};
+ghost use Rattle.words.specs.Limits.{sheetWidth, mostMembers, mostUnionBytes};
+ghost use Rattle.words.specs.Words.{unionIn, tableWords};
+ghost use Rattle.words.specs.Rows.{NarrowRows};
 ghost use Rattle.sheets.specs.Format.{memberAt};
 ghost use Rattle.sheets.specs.Partners.{memberAsRead};
-ghost use Rattle.read_union.specs.UnionRows.{Readable, RowOf, NarrowRows, UnionRead};
-
-// The row of a member, from its step and its question.
-fn member_words(step: u64, q: QueryWords) -> [u64; MEMBER_WORDS]
-    requires { ⌜ (q .terms ≤ mostTerms) × (q .size ≤ mostAtoms) × TermWords (q .answers) ⌝ }
-    ensures { λ r. ⌜ RowOf (record { step = stepOf step; query = queryOf q }) r ⌝ }
-{
-    let a = q.answers;
-    let b = q.atoms;
-    let terms = q.terms as u64;
-    let size = q.size as u64;
-    [
-        step,
-        terms,
-        a[0],
-        a[1],
-        a[2],
-        a[3],
-        size,
-        0,
-        b[0],
-        b[1],
-        b[2],
-        b[3],
-        b[4],
-        b[5],
-        b[6],
-        b[7],
-    ]
-}
-
-// Puts a row into the table, from word `at` on.
-fn put_row(table: &mut [u64], at: usize, row: [u64; MEMBER_WORDS])
-    requires { ⌜ at + stride ≤ length (now table) ⌝ }
-    ensures { λ r. ⌜ now (table .exit) ≡ paste (now (table .entry)) at row stride ⌝ }
-{
-    let mut k: usize = 0;
-    while k < MEMBER_WORDS {
-        table[at + k] = row[k];
-        k += 1;
-    }
-}
+ghost use Rattle.read_union.specs.UnionRows.{Readable, UnionRead};
 
 // Reads the first `count` members of the sheet into the table's first rows.
 fn fill_union(s: &[u8], partners: &[u16], table: &mut [u64], count: usize)

@@ -31,6 +31,9 @@ pub mod StepShape
 pub mod WrittenStep
 pub mod UnionTests
 pub mod Union
+-- the union that is written
+pub mod WritingGrows
+pub mod Writing
 -- answers from facts
 pub mod Chase
 pub mod LostTags

@@ -1,4 +1,4 @@
--- The definitions, in reading order: Lists, Refusals, Syntax, LostTags, Chase, Rewriting, Renaming, Union, Evaluation.
+-- The definitions, in reading order: Lists, Refusals, Syntax, LostTags, Chase, Rewriting, Renaming, Union, Writing, Evaluation.
 pub mod Lists
 pub mod Refusals
 pub mod Syntax
@@ -7,5 +7,6 @@ pub mod Chase
 pub mod Rewriting
 pub mod Renaming
 pub mod Union
+pub mod Writing
 pub mod Evaluation
 pub mod Laws

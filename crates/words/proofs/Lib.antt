@@ -1,3 +1,4 @@
+pub mod NewRowLaws
 pub mod RowLaws
 pub mod StepLaws
 pub mod TagLaws

@@ -2,5 +2,6 @@
 pub mod Limits
 pub mod LowVariables
 pub mod Rows
+pub mod NewRows
 pub mod Scans
 pub mod WholeFacts

@@ -1,5 +1,6 @@
 // The fields of a step's word.
 ghost use mathlib.Core.Path.{_≡_};
+ghost use Prim.Native.Nat.{_<_};
 ghost use Rattle.theory.specs.Union.{zeroStep};
 ghost use Rattle.words.specs.Records.{stepKind, stepParent, stepAtom, stepOther, stepOf};
 
@@ -43,4 +44,12 @@ pub fn zero_step(step: u64) -> bool
         }
     }
     false
+}
+
+// The word of a step, from its fields.
+pub fn step_word(kind: u64, parent: usize, atom: usize, other: usize) -> u64
+    requires { ⌜ (kind < 4) × (parent < 1024) × (atom < 16) × (other < 65536) ⌝ }
+    ensures { λ r. ⌜ stepOf r ≡ record { kind = kind; parent = parent; atom = atom; other = other } ⌝ }
+{
+    kind * 0x40000000 + parent as u64 * 0x100000 + atom as u64 * 0x10000 + other as u64
 }

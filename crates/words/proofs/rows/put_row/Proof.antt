@@ -2,9 +2,9 @@
 use mathlib.Core.Path.{_≡_}
 use Prim.Native.Nat.{_≤_, _-_}
 use lib.Seq.{paste}
-use Rattle.read_union.proofs.RowLaws.{laws}
-use Rattle.read_union.proofs.put_row.Statement.{statement}
-use Rattle.read_union.proofs.put_row.Tie as tie
+use Rattle.words.proofs.NewRowLaws.{laws}
+use Rattle.words.proofs.rows.put_row.Statement.{statement}
+use Rattle.words.proofs.rows.put_row.Tie as tie
 
 abbrev Inv-loop : tie.InvT-loop
 Inv-loop table₀ at row k₀ table k = (k ≤ 16) × (table ≡ paste table₀ at row k)
