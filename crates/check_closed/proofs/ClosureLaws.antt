@@ -108,7 +108,7 @@ module _ (rules : List ℕ) (k : ℕ) where
 
 module _ (rules : List ℕ) (count : ℕ) (within : count ≤ length rules) where
   -- equal words are equal steps
-  same-step : (q : Query) (i j k : ℕ) → j < count → k < count → getD rules j 0 ≡ getD rules k 0 → ruleStep (rulesIn rules count) q i j
+  pub same-step : (q : Query) (i j k : ℕ) → j < count → k < count → getD rules j 0 ≡ getD rules k 0 → ruleStep (rulesIn rules count) q i j
       ≡ ruleStep (rulesIn rules count) q i k
   unfolding ruleStep
   same-step q i j k g h e = simp (rule-there rules count within j g, rule-there rules count within k h, e)

@@ -41,7 +41,7 @@ fn leads_outside(r: QueryFound, table: &[u64], n: usize, keys: &[u64]) -> bool
 }
 
 // Whether the rule word at index k stands earlier in the table.
-fn repeated(rules: &[u64], k: usize) -> bool
+pub fn repeated(rules: &[u64], k: usize) -> bool
     requires { ⌜ k < length (now rules) ⌝ }
     ensures { λ r. ⌜ r ≡ any (λ j. eqb (getD (now (rules .entry)) j 0) (getD (now (rules .entry)) k 0)) (numbers 0 k) ⌝ }
 {

@@ -1,0 +1,498 @@
+-- The order in which results are appended: the loops over rules, atoms and pairs, and over the members.
+use mathlib.Core.Path.{_≡_, refl, sym, ap, _∙_, subst}
+use Prim.Native.Nat.{ℕ, zero, suc, _+_, _-_, _≤_, _<_}
+use native.Mathlib.Numerals.{add-one}
+use native.Mathlib.Decide.{ℕ-discrete}
+use native.Mathlib.Omega.{arith}
+use mathlib.Core.Bool.{Bool, true, false}
+use mathlib.Core.Option.{Option, none, some}
+use mathlib.Core.List.{List, [], _∷_, _++_, flatMap}
+use lib.Dec.{T, eqb, eqb→eq}
+use lib.ListN.{length, getD, getElem?, set}
+use lib.Seq.{paste}
+use borrow.Author.Needs.{needs}
+use borrow.Author.Tests.{le-ltb}
+use Rattle.theory.specs.Lists.{Unrepeated, At, any, numbers}
+use Rattle.theory.specs.Syntax.{Rule, Query, Step, Member, UCQ}
+use Rattle.theory.specs.Rewriting.{ruleStep, mergeStep}
+use Rattle.theory.specs.Union.{noStep}
+use Rattle.theory.specs.Writing.{stepped, byRule, byMerge, stepsFrom, appendedAll, withStepsOf, grown, writtenUnion}
+use Rattle.theory.specs.Laws.Options.{some-inj, none≢some, some-or-none}
+use Rattle.theory.specs.Laws.Lists.{any-iff, numbers-iff}
+use Rattle.theory.specs.Laws.Scans.{rest-cons, rest-nil, all-left, records-length}
+use Rattle.theory.specs.Laws.WritingGrows.{Extends, extends-length, AlikeIn, alike-extends, appended-alike, appendedAll-append}
+use Rattle.theory.specs.Laws.WritingGrows.{appendedAll-extends, appendedAll-covers, found-stepped, grown-extends, grown-same}
+use Rattle.words.specs.Limits.{mostMembers, mostAtoms}
+use Rattle.words.specs.Records.{ruleIn, stepOf}
+use Rattle.words.specs.Words.{queryOf, Small, rulesIn, unionIn, wordAtom, stride, tableWords}
+use Rattle.words.specs.declared.QueryWords.{QueryWords}
+use Rattle.words.specs.Rows.{memberIn, RowOf}
+use Rattle.words.specs.Laws.Rows.{rows, union-at, rules-length, rule-there}
+use Rattle.words.specs.Laws.NewRows.{new-member}
+use Rattle.query_key.specs.Key.{key}
+use Rattle.query_rule.specs.RuleOnAtom.{names, unnamed-none}
+use Rattle.query_steps.specs.declared.steps.QueryFound.{QueryFound}
+use Rattle.query_steps.specs.StepResults.{queryFound}
+use Rattle.query_steps.proofs.StepLaws.{atom-at}
+use Rattle.check_steps.proofs.WrittenLaws.{rule-steps}
+use Rattle.check_closed.proofs.ClosureLaws.{sameWord, same-step, merge-distinct}
+use Rattle.write_members.specs.Members.{Found, Holds, HoldsUnion, Tried}
+use Rattle.write_members.proofs.MemberLaws.{members-length, found-rows, holds-itself, holds-longer}
+
+-- ---- a loop that appends, for each number below `end` in order, what f gives
+
+-- what is left from i on makes the goal of the members so far
+pub record Left (f : ℕ → List Member) (end : ℕ) (goal : UCQ) (i : ℕ) (u : UCQ) : Type 0 where
+  pub makes : appendedAll u (flatMap f (numbers i (end - i))) ≡ goal
+
+module _ (f : ℕ → List Member) (end : ℕ) (goal : UCQ) where
+  pub left-begins : (u : UCQ) → appendedAll u (flatMap f (numbers 0 end)) ≡ goal → Left f end goal 0 u
+  left-begins u e = record { makes = ap (λ l. appendedAll u (flatMap f l)) (all-left end) ∙ e }
+
+  module _ (i : ℕ) (u : UCQ) (left : Left f end goal i u) where
+    later : i < end → appendedAll (appendedAll u (f i)) (flatMap f (numbers (i + 1) (end - (i + 1)))) ≡ goal
+    unfolding flatMap
+    later h =
+        sym (appendedAll-append u (f i) (flatMap f (numbers (i + 1) (end - (i + 1)))))
+        ∙ sym (ap (λ l. appendedAll u (flatMap f l)) (rest-cons i end h)) ∙ left .makes
+
+    pub left-next : (v : UCQ) → i < end → v ≡ appendedAll u (f i) → Left f end goal (i + 1) v
+    left-next v h e = record { makes = ap (λ x. appendedAll x (flatMap f (numbers (i + 1) (end - (i + 1))))) e ∙ later h }
+
+    pub left-over : i < end → mostMembers < length (appendedAll u (f i)) → mostMembers < length goal
+    left-over h l =
+        let g : length (appendedAll u (f i)) ≤ length goal =
+        subst (λ x. length (appendedAll u (f i)) ≤ length x) (later h)
+        (extends-length (appendedAll u (f i)) _ (appendedAll-extends (appendedAll u (f i)) (flatMap f (numbers (i + 1) (end - (i + 1)))))) in
+        omega arith
+
+    pub left-done : end ≤ i → u ≡ goal
+    unfolding flatMap appendedAll
+    left-done h = sym (ap (λ l. appendedAll u (flatMap f l)) (rest-nil i end h)) ∙ left .makes
+
+    left-empty : i < end → f i ≡ [] → Left f end goal (i + 1) u
+    unfolding appendedAll
+    left-empty h e = left-next u h (sym (ap (appendedAll u) e))
+
+  -- the first k give nothing
+  left-skip : (u : UCQ) → Left f end goal 0 u → (k : ℕ) → k ≤ end → ((j : ℕ) → j < k → f j ≡ []) → Left f end goal k u
+  left-skip u left zero h e = left
+  left-skip u left (suc k) h e =
+      subst (λ j. Left f end goal j u) (add-one k)
+      (left-empty k u (left-skip u left k (omega arith) (λ j l. e j (omega arith))) (omega arith) (e k (omega arith)))
+
+  -- ---- the same of a table
+
+  module _ (table keys : List ℕ) (m i : ℕ) where
+    pub loop-done : Found table keys m → Left f end goal i (unionIn table m) → end ≤ i → Holds goal table keys m
+    loop-done found left h = holds-itself goal table keys m found (left-done i (unionIn table m) left h)
+
+  module _ (u : UCQ) (i : ℕ) (left : Left f end goal i u) (h : i < end) (table keys : List ℕ) (m : ℕ)
+      (holds : Holds (appendedAll u (f i)) table keys m) where
+    pub loop-over : mostMembers < m → Holds goal table keys m
+    loop-over l = record {
+      found = λ g. absurd (omega arith);
+      union-is = λ g. absurd (omega arith);
+      many = λ g. left-over i u left h (holds .many l);
+    }
+
+    pub loop-next : m ≤ mostMembers → Left f end goal (i + 1) (unionIn table m)
+    loop-next l = left-next i u left (unionIn table m) h (holds .union-is l)
+
+pub holds-found : (union : UCQ) (table keys : List ℕ) (m : ℕ) → Holds union table keys m → m ≤ mostMembers → Found table keys m
+holds-found union table keys m holds l = holds .found l
+
+-- ---- rules
+
+-- what one rule makes of one atom
+module _ (rules : List ℕ) (count : ℕ) (within : count ≤ length rules) (parent : ℕ) (q : QueryWords) (i k : ℕ) (h : k < count)
+    (table keys : List ℕ) (n : ℕ) where
+  abbrev inTable : List Rule
+  inTable = rulesIn rules count
+
+  abbrev ruled : UCQ
+  ruled = appendedAll (unionIn table n) (byRule inTable parent (queryOf q) i k)
+
+  abbrev ruleOf : Step
+  ruleOf = record { kind = 1; parent = parent; atom = i; other = k }
+
+  pub by-rule : (r : QueryFound) (step : ℕ) (later later-keys : List ℕ) (m : ℕ)
+      → ((rs : List Rule) (l : ℕ) → At rs l (ruleIn (getD rules k 0)) → queryFound r ≡ ruleStep rs (queryOf q) i l)
+      → stepOf step ≡ ruleOf
+      → Holds (appendedAll (unionIn table n) (stepped (stepOf step) (queryFound r))) later later-keys m → Holds ruled later later-keys m
+  unfolding byRule
+  by-rule r step later later-keys m f e holds =
+      subst (λ u. Holds u later later-keys m)
+      (ap (λ s. appendedAll (unionIn table n) (stepped s (queryFound r))) e
+      ∙ ap (λ o. appendedAll (unionIn table n) (stepped ruleOf o)) (rule-steps rules count within r q i k h f))
+      holds
+
+  -- a rule for another predicate makes nothing
+  pub unnamed : (b : Bool) → Found table keys n → length (q .atoms) ≡ 8 → Small q → i < q .size
+      → b ≡ names (ruleIn (getD rules k 0)) (wordAtom (getD (q .atoms) i 0)) → b ≡ false → Holds ruled table keys n
+  unfolding byRule ruleStep stepped appendedAll
+  unnamed b found l s g e f =
+      let none-made = unnamed-none (queryOf q) (ruleIn (getD rules k 0)) (wordAtom (getD (q .atoms) i 0)) (sym e ∙ f) in
+      let no-step : ruleStep inTable (queryOf q) i k ≡ none = simp (rule-there rules count within k h, atom-at q i l s g, ← none-made) in
+      holds-itself ruled table keys n found (sym (ap (λ o. appendedAll (unionIn table n) (stepped ruleOf o)) no-step))
+
+  -- what is alike to a member is not appended
+  tried-before : (o : Option Query) → ((r : Query) → o ≡ some r → AlikeIn r (unionIn table n))
+      → appendedAll (unionIn table n) (stepped ruleOf o) ≡ unionIn table n
+  unfolding stepped appendedAll
+  tried-before none f = refl
+  tried-before (some r) f = appended-alike (unionIn table n) record { step = ruleOf; query = r } (f r refl)
+
+  -- nor what a word that stands earlier makes
+  pub second-try : (b : Bool) → Found table keys n → Tried inTable (queryOf q) i k (unionIn table n)
+      → b ≡ any (sameWord rules k) (numbers 0 k) → b ≡ true → Holds ruled table keys n
+  unfolding byRule
+  second-try b found tried e f =
+      let (j, m, t) = any-iff (sameWord rules k) (numbers 0 k) .0 (subst T (sym (sym e ∙ f)) tt) in
+      let l = numbers-iff k j .0 m in
+      holds-itself ruled table keys n found (sym (tried-before (ruleStep inTable (queryOf q) i k)
+      (λ r d. tried .each j r l
+      (same-step rules count within (queryOf q) i j k (omega arith) h (eqb→eq (getD rules j 0) (getD rules k 0) t) ∙ d))))
+
+-- the rules tried so far
+pub none-tried : (rules : List Rule) (q : Query) (i : ℕ) (union : UCQ) → Tried rules q i 0 union
+none-tried rules q i union = record { each = λ j r h. absurd (omega arith) }
+
+module _ (rules : List Rule) (parent : ℕ) (q : Query) (i k : ℕ) (u : UCQ) where
+  tried-now : (r : Query) → ruleStep rules q i k ≡ some r → AlikeIn r (appendedAll u (byRule rules parent q i k))
+  unfolding byRule
+  tried-now r e =
+      appendedAll-covers u (stepped record { kind = 1; parent = parent; atom = i; other = k } (ruleStep rules q i k))
+      (found-stepped rules q record { kind = 1; parent = parent; atom = i; other = k } (ruleStep rules q i k) e)
+
+  pub one-more-tried : (table keys : List ℕ) (m : ℕ) → Tried rules q i k u → Holds (appendedAll u (byRule rules parent q i k)) table keys m
+      → m ≤ mostMembers → Tried rules q i (k + 1) (unionIn table m)
+  one-more-tried table keys m tried holds l =
+      subst (Tried rules q i (k + 1)) (sym (holds .union-is l)) record {
+        each = λ j r h e. elim (ℕ-discrete j k) [
+          | yes d ↦ tried-now r (ap (ruleStep rules q i) (sym d) ∙ e)
+          | no d ↦ alike-extends r u (appendedAll u (byRule rules parent q i k)) (appendedAll-extends u (byRule rules parent q i k))
+              (tried .each j r (omega arith) e)
+        ];
+      }
+
+-- ---- merges
+
+module _ (parent : ℕ) (q : QueryWords) (i j : ℕ) where
+  pub by-merge : (u : UCQ) (r : QueryFound) (step : ℕ) (later later-keys : List ℕ) (m : ℕ) → queryFound r ≡ mergeStep (queryOf q) i j
+      → stepOf step ≡ record { kind = 2; parent = parent; atom = i; other = j }
+      → Holds (appendedAll u (stepped (stepOf step) (queryFound r))) later later-keys m
+      → Holds (appendedAll u (byMerge parent (queryOf q) i j)) later later-keys m
+  unfolding byMerge
+  by-merge u r step later later-keys m e f holds =
+      subst (λ x. Holds x later later-keys m)
+      (ap (λ s. appendedAll u (stepped s (queryFound r))) f
+      ∙ ap (λ o. appendedAll u (stepped record { kind = 2; parent = parent; atom = i; other = j } o)) e)
+      holds
+
+  -- no atom is merged with itself or an earlier one
+  not-merged : j < i + 1 → byMerge parent (queryOf q) i j ≡ []
+  unfolding byMerge mergeStep stepped
+  not-merged h = simp (le-ltb i j (omega arith))
+
+pub merges-begin : (parent : ℕ) (q : QueryWords) (i size : ℕ) (u : UCQ) → i < size
+    → Left (byMerge parent (queryOf q) i) size (appendedAll u (flatMap (byMerge parent (queryOf q) i) (numbers 0 size))) (i + 1) u
+merges-begin parent q i size u h =
+    left-skip (byMerge parent (queryOf q) i) size goal u (left-begins (byMerge parent (queryOf q) i) size goal u refl) (i + 1) (omega arith)
+    (λ j l. not-merged parent q i j l)
+  where
+    goal : UCQ
+    goal = appendedAll u (flatMap (byMerge parent (queryOf q) i) (numbers 0 size))
+
+-- ---- all steps of a member
+
+module _ (rules : List ℕ) (count : ℕ) (within : count ≤ length rules) (k : ℕ) (q : QueryWords) (s : Small q)
+    (eight : length (q .atoms) ≡ mostAtoms) (m : Member) (e : queryOf q ≡ m .query) (u : UCQ) where
+  abbrev ruleResults : List Member
+  ruleResults = flatMap (λ i. flatMap (byRule (rulesIn rules count) k (queryOf q) i) (numbers 0 count)) (numbers 0 (q .size))
+
+  abbrev mergeResults : List Member
+  mergeResults = flatMap (λ i. flatMap (byMerge k (queryOf q) i) (numbers 0 (q .size))) (numbers 0 (q .size))
+
+  abbrev allResults : UCQ
+  allResults = withStepsOf (rulesIn rules count) k (some m) u
+
+  size-is : length (queryOf q .atoms) ≡ q .size
+  unfolding queryOf
+  size-is = records-length wordAtom (q .atoms) (q .size) (let h = s .few-atoms in omega arith)
+
+  steps-are : stepsFrom (rulesIn rules count) k (queryOf q) ≡ ruleResults ++ mergeResults
+  unfolding stepsFrom
+  steps-are = simp (rules-length rules count within, size-is)
+
+  all-steps : appendedAll (appendedAll u ruleResults) mergeResults ≡ allResults
+  unfolding withStepsOf
+  all-steps =
+      sym (appendedAll-append u ruleResults mergeResults) ∙ ap (appendedAll u) (sym steps-are)
+      ∙ ap (λ p. appendedAll u (stepsFrom (rulesIn rules count) k p)) e
+
+  module _ (table keys : List ℕ) (n : ℕ) (holds : Holds (appendedAll u ruleResults) table keys n) where
+    -- the rules alone lead to more than are allowed
+    pub rules-over : mostMembers < n → Holds allResults table keys n
+    rules-over l =
+        let g : length (appendedAll u ruleResults) ≤ length allResults =
+        subst (λ x. length (appendedAll u ruleResults) ≤ length x) all-steps
+        (extends-length (appendedAll u ruleResults) _ (appendedAll-extends (appendedAll u ruleResults) mergeResults)) in
+        let h = holds .many l in
+        record { found = λ x. absurd (omega arith); union-is = λ x. absurd (omega arith); many = λ x. omega arith }
+
+    pub then-merges : (later later-keys : List ℕ) (o : ℕ) → n ≤ mostMembers
+        → Holds (appendedAll (unionIn table n) mergeResults) later later-keys o → Holds allResults later later-keys o
+    then-merges later later-keys o l =
+        subst (λ x. Holds x later later-keys o) (ap (λ x. appendedAll x mergeResults) (holds .union-is l) ∙ all-steps)
+
+-- ---- the members in order
+
+module _ (rules : List Rule) (q : Query) where
+  -- k members have been taken
+  pub record Taken (k : ℕ) (table keys : List ℕ) (n : ℕ) : Type 0 where
+    pub found : Found table keys n
+    pub union-is : unionIn table n ≡ grown rules q k
+    pub within : k ≤ n
+
+  module _ (before before-keys : List ℕ) (n k : ℕ) (now : Taken k before before-keys n) where
+    pub taken-all : n ≤ k → HoldsUnion (writtenUnion mostMembers rules q) before n
+    unfolding writtenUnion
+    taken-all g =
+        let few = now .found .few in
+        let h = now .within in
+        let a : length (grown rules q k) ≡ n = ap length (sym (now .union-is)) ∙ members-length before n in
+        record {
+          rows = λ x. now .found .rows;
+          union-is = λ x. now .union-is ∙ sym (grown-same rules q k mostMembers (omega arith) (omega arith));
+          many = λ x. absurd (omega arith);
+        }
+
+    module _ (table keys : List ℕ) (m : ℕ)
+        (holds : Holds (withStepsOf rules k (some (memberIn before k)) (unionIn before n)) table keys m) (h : k < n) where
+      one-more : withStepsOf rules k (some (memberIn before k)) (unionIn before n) ≡ grown rules q (k + 1)
+      unfolding grown
+      one-more =
+          ap (λ o. withStepsOf rules k o (unionIn before n)) (sym (union-at before n k h))
+          ∙ ap (λ (u : UCQ). withStepsOf rules k (getElem? u k) u) (now .union-is) ∙ ap (grown rules q) (sym (add-one k))
+
+      -- members are not lost
+      kept-within : m ≤ mostMembers → k + 1 ≤ m
+      unfolding withStepsOf
+      kept-within l =
+          let g : length (unionIn before n) ≤ length (unionIn table m) =
+          subst (λ (u : UCQ). length (unionIn before n) ≤ length u) (sym (holds .union-is l))
+          (extends-length (unionIn before n) _ (appendedAll-extends (unionIn before n) (stepsFrom rules k (memberIn before k .query)))) in
+          let a = members-length before n in
+          let b = members-length table m in
+          omega arith
+
+      pub taken-next : m ≤ mostMembers → Taken (k + 1) table keys m
+      taken-next l = record { found = holds .found l; union-is = holds .union-is l ∙ one-more; within = kept-within l }
+
+      pub taken-stop : mostMembers < m → HoldsUnion (writtenUnion mostMembers rules q) table m
+      unfolding writtenUnion
+      taken-stop l = record {
+        rows = λ x. absurd (omega arith);
+        union-is = λ x. absurd (omega arith);
+        many = λ x.
+            (let few = now .found .few in
+            let g : length (grown rules q (k + 1)) ≤ length (grown rules q mostMembers) =
+            extends-length (grown rules q (k + 1)) (grown rules q mostMembers) (grown-extends rules q (k + 1) mostMembers (omega arith)) in
+            let a : mostMembers < length (grown rules q (k + 1)) = subst (λ (u : UCQ). mostMembers < length u) one-more (holds .many l) in
+            omega arith);
+      }
+
+-- member 0 alone
+pub taken-begin : (rules : List Rule) (table keys : List ℕ) → Found table keys 1 → memberIn table 0 .step ≡ stepOf 0
+    → Taken rules (memberIn table 0 .query) 0 table keys 1
+unfolding unionIn grown numbers stepOf
+taken-begin rules table keys f e = record {
+  found = f;
+  union-is = λ i. record { step = e i; query = memberIn table 0 .query } ∷ [];
+  within = omega arith;
+}
+
+-- the question put into an empty table
+module _ (table keys later row : List ℕ) (q : QueryWords) (r : RowOf (record { step = stepOf 0; query = queryOf q }) row)
+    (room : tableWords ≤ length table) (e : later ≡ paste table 0 row stride) where
+  none-yet : mostMembers ≤ length keys → Found table keys 0
+  none-yet l = record {
+    few = omega arith;
+    room = room;
+    key-room = l;
+    rows = record { long = omega arith; each = λ j h. absurd (omega arith) };
+    keyed = record { room = omega arith; each = λ j h. absurd (omega arith) };
+  }
+
+  pub first-found : (v : ℕ) → mostMembers ≤ length keys → Small q → Unrepeated (queryOf q .atoms) → v ≡ key (queryOf q)
+      → Found later (set keys 0 v) 1
+  first-found v l s u k =
+      holds-longer table keys 0 (none-yet l) q 0 (omega arith) s u row r later v e k .found (omega arith)
+
+  first-is : memberIn later 0 ≡ record { step = stepOf 0; query = queryOf q }
+  first-is =
+      ap (λ t. memberIn t 0) e
+      ∙ new-member table row 0 record { step = stepOf 0; query = queryOf q } r record { long = omega arith; each = λ j h. absurd (omega arith) }
+      (omega arith)
+
+  pub first-step : memberIn later 0 .step ≡ stepOf 0
+  first-step = ap (λ (m : Member). m .step) first-is
+
+  pub first-asked : (rules : List Rule) (written : List ℕ) (m : ℕ)
+      → HoldsUnion (writtenUnion mostMembers rules (memberIn later 0 .query)) written m
+      → HoldsUnion (writtenUnion mostMembers rules (queryOf q)) written m
+  first-asked rules written m h =
+      subst (λ (x : Member). HoldsUnion (writtenUnion mostMembers rules (x .query)) written m) first-is h
+
+pub found-few : (table keys : List ℕ) (n : ℕ) → Found table keys n → n ≤ mostMembers
+found-few table keys n f = f .few
+
+-- ---- the four loops: what holds before each turn
+
+-- the rules in order on one atom
+module _ (rules : List Rule) (count parent : ℕ) (q : Query) (i : ℕ) (goal : UCQ) where
+  pub record RulesLeft (k : ℕ) (table keys : List ℕ) (n : ℕ) : Type 0 where
+    pub found : Found table keys n
+    pub left : Left (byRule rules parent q i) count goal k (unionIn table n)
+    pub tried : Tried rules q i k (unionIn table n)
+
+  module _ (before before-keys : List ℕ) (n k : ℕ) (now : RulesLeft k before before-keys n) where
+    pub rules-done : count ≤ k → Holds goal before before-keys n
+    rules-done h = loop-done (byRule rules parent q i) count goal before before-keys n k (now .found) (now .left) h
+
+    module _ (table keys : List ℕ) (m : ℕ) (holds : Holds (appendedAll (unionIn before n) (byRule rules parent q i k)) table keys m)
+        (h : k < count) where
+      pub rules-stop : mostMembers < m → Holds goal table keys m
+      rules-stop = loop-over (byRule rules parent q i) count goal (unionIn before n) k (now .left) h table keys m holds
+
+      pub rules-next : m ≤ mostMembers → RulesLeft (k + 1) table keys m
+      rules-next l = record {
+        found = holds .found l;
+        left = loop-next (byRule rules parent q i) count goal (unionIn before n) k (now .left) h table keys m holds l;
+        tried = one-more-tried rules parent q i k (unionIn before n) table keys m (now .tried) holds l;
+      }
+
+pub rules-begin : (rules : List Rule) (count parent : ℕ) (q : Query) (i : ℕ) (table keys : List ℕ) (n : ℕ) → Found table keys n
+    → RulesLeft rules count parent q i (appendedAll (unionIn table n) (flatMap (byRule rules parent q i) (numbers 0 count))) 0 table keys n
+rules-begin rules count parent q i table keys n f = record {
+  found = f;
+  left = left-begins (byRule rules parent q i) count
+      (appendedAll (unionIn table n) (flatMap (byRule rules parent q i) (numbers 0 count))) (unionIn table n) refl;
+  tried = none-tried rules q i (unionIn table n);
+}
+
+-- the atoms in order
+module _ (rules : List Rule) (count parent : ℕ) (q : Query) (size : ℕ) (goal : UCQ) where
+  abbrev byRules : ℕ → List Member
+  byRules i = flatMap (byRule rules parent q i) (numbers 0 count)
+
+  pub record AtomsLeft (i : ℕ) (table keys : List ℕ) (n : ℕ) : Type 0 where
+    pub found : Found table keys n
+    pub left : Left byRules size goal i (unionIn table n)
+
+  module _ (before before-keys : List ℕ) (n i : ℕ) (now : AtomsLeft i before before-keys n) where
+    pub atoms-done : size ≤ i → Holds goal before before-keys n
+    atoms-done h = loop-done byRules size goal before before-keys n i (now .found) (now .left) h
+
+    module _ (table keys : List ℕ) (m : ℕ)
+        (holds : Holds (appendedAll (unionIn before n) (flatMap (byRule rules parent q i) (numbers 0 count))) table keys m) (h : i < size) where
+      pub atoms-stop : mostMembers < m → Holds goal table keys m
+      atoms-stop = loop-over byRules size goal (unionIn before n) i (now .left) h table keys m holds
+
+      pub atoms-next : m ≤ mostMembers → AtomsLeft (i + 1) table keys m
+      atoms-next l = record {
+        found = holds .found l;
+        left = loop-next byRules size goal (unionIn before n) i (now .left) h table keys m holds l;
+      }
+
+pub atoms-begin : (rules : List Rule) (count parent : ℕ) (q : Query) (size : ℕ) (table keys : List ℕ) (n : ℕ) → Found table keys n
+    → AtomsLeft rules count parent q size
+    (appendedAll (unionIn table n) (flatMap (λ i. flatMap (byRule rules parent q i) (numbers 0 count)) (numbers 0 size))) 0 table keys n
+atoms-begin rules count parent q size table keys n f = record {
+  found = f;
+  left = left-begins (λ i. flatMap (byRule rules parent q i) (numbers 0 count)) size
+      (appendedAll (unionIn table n) (flatMap (λ i. flatMap (byRule rules parent q i) (numbers 0 count)) (numbers 0 size)))
+      (unionIn table n) refl;
+}
+
+-- the later atoms in order
+module _ (parent : ℕ) (q : QueryWords) (i size : ℕ) (goal : UCQ) where
+  pub record LaterLeft (j : ℕ) (table keys : List ℕ) (n : ℕ) : Type 0 where
+    pub found : Found table keys n
+    pub left : Left (byMerge parent (queryOf q) i) size goal j (unionIn table n)
+
+  module _ (before before-keys : List ℕ) (n j : ℕ) (now : LaterLeft j before before-keys n) where
+    pub later-done : size ≤ j → Holds goal before before-keys n
+    later-done h = loop-done (byMerge parent (queryOf q) i) size goal before before-keys n j (now .found) (now .left) h
+
+    module _ (table keys : List ℕ) (m : ℕ) (r : QueryFound) (step : ℕ)
+        (holds : Holds (appendedAll (unionIn before n) (stepped (stepOf step) (queryFound r))) table keys m)
+        (h : j < size) (e : queryFound r ≡ mergeStep (queryOf q) i j)
+        (f : stepOf step ≡ record { kind = 2; parent = parent; atom = i; other = j }) where
+      pub later-stop : mostMembers < m → Holds goal table keys m
+      later-stop =
+          loop-over (byMerge parent (queryOf q) i) size goal (unionIn before n) j (now .left) h table keys m
+          (by-merge parent q i j (unionIn before n) r step table keys m e f holds)
+
+      pub later-next : m ≤ mostMembers → LaterLeft (j + 1) table keys m
+      later-next l = record {
+        found = holds .found l;
+        left = loop-next (byMerge parent (queryOf q) i) size goal (unionIn before n) j (now .left) h table keys m
+            (by-merge parent q i j (unionIn before n) r step table keys m e f holds) l;
+      }
+
+pub later-begin : (parent : ℕ) (q : QueryWords) (i size : ℕ) (table keys : List ℕ) (n : ℕ) → Found table keys n → i < size
+    → LaterLeft parent q i size (appendedAll (unionIn table n) (flatMap (byMerge parent (queryOf q) i) (numbers 0 size))) (i + 1) table keys n
+later-begin parent q i size table keys n f h = record { found = f; left = merges-begin parent q i size (unionIn table n) h }
+
+-- the earlier atoms in order
+module _ (parent : ℕ) (q : Query) (size : ℕ) (goal : UCQ) where
+  abbrev byMerges : ℕ → List Member
+  byMerges i = flatMap (byMerge parent q i) (numbers 0 size)
+
+  pub record PairsLeft (i : ℕ) (table keys : List ℕ) (n : ℕ) : Type 0 where
+    pub found : Found table keys n
+    pub left : Left byMerges size goal i (unionIn table n)
+
+  module _ (before before-keys : List ℕ) (n i : ℕ) (now : PairsLeft i before before-keys n) where
+    pub pairs-done : size ≤ i → Holds goal before before-keys n
+    pairs-done h = loop-done byMerges size goal before before-keys n i (now .found) (now .left) h
+
+    module _ (table keys : List ℕ) (m : ℕ)
+        (holds : Holds (appendedAll (unionIn before n) (flatMap (byMerge parent q i) (numbers 0 size))) table keys m) (h : i < size) where
+      pub pairs-stop : mostMembers < m → Holds goal table keys m
+      pairs-stop = loop-over byMerges size goal (unionIn before n) i (now .left) h table keys m holds
+
+      pub pairs-next : m ≤ mostMembers → PairsLeft (i + 1) table keys m
+      pairs-next l = record {
+        found = holds .found l;
+        left = loop-next byMerges size goal (unionIn before n) i (now .left) h table keys m holds l;
+      }
+
+pub pairs-begin : (parent : ℕ) (q : Query) (size : ℕ) (table keys : List ℕ) (n : ℕ) → Found table keys n
+    → PairsLeft parent q size
+    (appendedAll (unionIn table n) (flatMap (λ i. flatMap (byMerge parent q i) (numbers 0 size)) (numbers 0 size))) 0 table keys n
+pairs-begin parent q size table keys n f = record {
+  found = f;
+  left = left-begins (λ i. flatMap (byMerge parent q i) (numbers 0 size)) size
+      (appendedAll (unionIn table n) (flatMap (λ i. flatMap (byMerge parent q i) (numbers 0 size)) (numbers 0 size))) (unionIn table n) refl;
+}
+
+pub ruleset common = (needs, holds-found, found-few)
+
+pub ruleset ruleTries = (needs, by-rule, unnamed, second-try)
+
+pub ruleset ruleLoop = (needs, found-few, rules-begin, rules-done, rules-stop, rules-next)
+
+pub ruleset atomLoop = (needs, found-few, atoms-begin, atoms-done, atoms-stop, atoms-next)
+
+pub ruleset laterLoop = (needs, found-few, later-begin, merge-distinct, later-done, later-stop, later-next)
+
+pub ruleset pairLoop = (needs, found-few, pairs-begin, pairs-done, pairs-stop, pairs-next)
+
+pub ruleset memberSteps = (common, rows, found-rows, rules-over, then-merges)
+
+pub ruleset memberLoop = (needs, found-few, taken-begin, taken-all, taken-next, taken-stop)
+
+pub ruleset firstMember = (needs, first-found, first-step, first-asked)
