@@ -1,59 +1,24 @@
--- Rules and question as they were read are what the members' check asks for; and the numbers that the readers give, one after the other,
--- come to the first refusal of the list.
-use mathlib.Core.Path.{_≡_, sym, ap, _∙_, subst}
-use Prim.Native.Nat.{ℕ, _≤_}
-use native.Mathlib.Omega.{arith}
-use mathlib.Core.Bool.{Bool, true, false}
-use mathlib.Core.Option.{none}
-use mathlib.Core.List.{List, _∷_}
-use lib.Dec.{T}
-use lib.ListN.{length}
+-- The numbers that the readers give, one after the other, come to the first refusal of the list.
+use mathlib.Core.Path.{_≡_, sym, ap, _∙_}
+use Prim.Native.Nat.{ℕ}
+use mathlib.Core.List.{List}
 use borrow.Author.Needs.{needs}
-use Rattle.theory.specs.Lists.{_∈_, all}
 use Rattle.theory.specs.Refusals.{firstRefusal}
-use Rattle.theory.specs.Syntax.{var, terms}
-use Rattle.theory.specs.Laws.Options.{none≢some}
-use Rattle.words.specs.Words.{rulesIn, queryOf, Small}
+use Rattle.words.specs.Words.{rulesIn, queryOf}
 use Rattle.words.specs.declared.QueryWords.{QueryWords}
-use Rattle.words.specs.Limits.{sheetWidth, mostRules}
+use Rattle.words.specs.Limits.{sheetWidth}
 use Rattle.sheets.specs.Format.{termCount}
 use Rattle.sheets.specs.Partners.{partners01}
 use Rattle.sheets.specs.Refusals.{questionRefusals, numberOf}
 use Rattle.sheets.specs.Reading.{rulesAsRead, questionAsRead}
-use Rattle.sheets.specs.Tests.{refuses3}
-use Rattle.sheets.specs.Laws.QuestionRefusals.{not3-iff, variables-in-range}
-use Rattle.sheets.specs.Laws.OneList.{first-positive}
 use Rattle.promises.specs.Laws.Checking.{rules-stop, question-stops, question-passes}
 use Rattle.promises.specs.Checking.{sheetsOf, checkNumber, Checked}
 use Rattle.promises.specs.Laws.CheckPromises.{zero-means}
 use Rattle.read_rules.specs.RuleWords.{RulesRead}
+use Rattle.read_rules.specs.RuleLaws.{rules-within}
 use Rattle.read_question.specs.QuestionWords.{QuestionRead}
+use Rattle.read_question.specs.QuestionLaws.{question-small}
 use Rattle.check_sheet.specs.Members.{unionNumber}
-
--- ---- rules and question, as they were read
-
-pub rules-within : (p s table : List ℕ) (number count : ℕ) → RulesRead p s table number count → length table ≡ mostRules
-    → count ≤ length table
-rules-within p s table number count read h = let l : count ≤ mostRules = read .few in omega arith
-
--- where no test passes, the first does not
-first-fails : (n : ℕ) (b : Bool) (later : List (ℕ × Bool)) → firstRefusal ((n, b) ∷ later) ≡ none → ¬ T b
-unfolding firstRefusal
-first-fails n true later e t = none≢some (sym e)
-first-fails n false later e t = t
-
-pub question-small : (p s : List ℕ) (q : QueryWords) (number : ℕ) → QuestionRead p s number q → number ≡ 0 → Small q
-unfolding questionRefusals all
-question-small p s q number asked zero =
-    let read = asked .query zero in
-    let passed = first-positive (questionRefusals p sheetWidth s) tt .0 (sym (asked .number-is) ∙ zero) in
-    let sound = not3-iff sheetWidth s .0 (first-fails 3 (refuses3 sheetWidth s) _ passed) .0 in
-    record {
-      few-terms = read .few-terms;
-      few-atoms = read .few-atoms;
-      answer-words = read .answer-words;
-      variables = λ v m. variables-in-range sheetWidth s 0 sound p v (subst (λ r. var v ∈ terms r) (read .query-is) m);
-    }
 
 -- ---- a check
 

@@ -6,5 +6,6 @@ pub mod AnswerBytes
 pub mod Drawing
 pub mod DrawPromises
 pub mod LostTags
+pub mod WritePromises
 pub mod Printing
 pub mod Cut

@@ -3,6 +3,7 @@ pub mod TheSheets
 pub mod Checking
 pub mod Drawing
 pub mod Showing
+pub mod Writing
 pub mod Ascii
 pub mod Report
 pub mod Text

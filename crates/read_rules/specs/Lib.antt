@@ -1,1 +1,2 @@
 pub mod RuleWords
+pub mod RuleLaws

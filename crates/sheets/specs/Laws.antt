@@ -17,3 +17,4 @@ pub mod PackingUnions
 pub mod ObjectRange
 pub mod TupleOrder
 pub mod StepsInRange
+pub mod WrittenUnion

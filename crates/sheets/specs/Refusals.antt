@@ -54,7 +54,10 @@ onlyFacts = record { rules = false; question = false; union = false; facts = tru
 abbrev pub questionAndUnion : Which
 questionAndUnion = record { rules = false; question = true; union = true; facts = false }
 
--- what checking a union takes, and what drawing answers takes
+-- what writing a union takes (02, T-02), what checking one takes, and what drawing answers takes
+abbrev pub writing : Which
+writing = record { rules = true; question = true; union = false; facts = false }
+
 abbrev pub checking : Which
 checking = record { rules = true; question = true; union = true; facts = false }
 

@@ -34,10 +34,11 @@ none-both (c ∷ cs) ds =
       λ h. (h .0 .0, rest .1 (h .0 .1, h .1)),
     )
 
--- A refusal by a list of conditions, and else one more by a test: what it says of the list with the last condition behind it.
+-- A refusal by a list of conditions, and else one more by a test: what it says of the list with the last condition behind it. The test need
+-- decide its condition only where the list's refusals do not apply.
 module _ (conditions : List {1} (ℕ × Type 0)) (o : Option ℕ) (refused : (n : ℕ) → (o ≡ some n) ↔ First conditions n) (passed : (o ≡ none)
     ↔ NoneHolds conditions)
-    (last : ℕ) (b : Bool) (Last : Type 0) (decides : T b ↔ Last) where
+    (last : ℕ) (b : Bool) (Last : Type 0) (decides : o ≡ none → T b ↔ Last) where
   pub with-last : (n : ℕ) → (orElse o (guard b last) ≡ some n) ↔ First (conditions ++ ((last, Last) ∷ [])) n
   unfolding orElse
   with-last n = (
@@ -48,12 +49,12 @@ module _ (conditions : List {1} (ℕ × Type 0)) (o : Option ℕ) (refused : (n 
       to : (p : Option ℕ) → p ≡ o → (c : Bool) → c ≡ b → orElse p (guard c last) ≡ some n
           → First conditions n ⊎ (NoneHolds conditions × First ((last, Last) ∷ []) n)
       to (some m) d c k e = inl (refused n .0 (sym d ∙ e))
-      to none d true k e = inr (passed .0 (sym d), inl (some-inj e, decides .0 (rw (← k) tt)))
+      to none d true k e = inr (passed .0 (sym d), inl (some-inj e, decides (sym d) .0 (rw (← k) tt)))
       to none d false k e = absurd (none≢some e)
 
       from : (First conditions n ⊎ (NoneHolds conditions × First ((last, Last) ∷ []) n)) → orElse o (guard b last) ≡ some n
       from (inl h) = ap (λ p. orElse p (guard b last)) (refused n .1 h)
-      from (inr (h, inl (e, k))) = ap (λ p. orElse p (guard b last)) (passed .1 h) ∙ holds b (decides .1 k) ∙ ap some e
+      from (inr (h, inl (e, k))) = ap (λ p. orElse p (guard b last)) (passed .1 h) ∙ holds b (decides (passed .1 h) .1 k) ∙ ap some e
         where
           holds : (c : Bool) → T c → guard c last ≡ some last
           holds true t = refl
@@ -69,10 +70,10 @@ module _ (conditions : List {1} (ℕ × Type 0)) (o : Option ℕ) (refused : (n 
           → NoneHolds conditions × NoneHolds ((last, Last) ∷ [])
       to (some m) d c k e = absurd (none≢some (sym e))
       to none d true k e = absurd (none≢some (sym e))
-      to none d false k e = (passed .0 (sym d), (λ h. subst T (sym k) (decides .1 h), tt))
+      to none d false k e = (passed .0 (sym d), (λ h. subst T (sym k) (decides (sym d) .1 h), tt))
 
       from : NoneHolds conditions × NoneHolds ((last, Last) ∷ []) → orElse o (guard b last) ≡ none
-      from (h, (k, u)) = ap (λ p. orElse p (guard b last)) (passed .1 h) ∙ fails b (λ t. k (decides .0 t))
+      from (h, (k, u)) = ap (λ p. orElse p (guard b last)) (passed .1 h) ∙ fails b (λ t. k (decides (passed .1 h) .0 t))
         where
           fails : (c : Bool) → ¬ T c → _≡_ {A = Option ℕ} (guard c last) none
           fails true t = absurd (t tt)

@@ -36,27 +36,27 @@ use Rattle.promises.specs.Laws.Conditions.{with-last, none-with-last}
 -- ---- one more refusal at the end of the list
 
 -- a number other than 0 behind a list whose 0 says that none applies
-zero-behind : (o : Option ℕ) (b : Bool) (n : ℕ) → 0 < n → ((numberOf o ≡ 0) ↔ (o ≡ none)) → (numberOf (orElse o (guard b n)) ≡ 0)
+pub zero-behind : (o : Option ℕ) (b : Bool) (n : ℕ) → 0 < n → ((numberOf o ≡ 0) ↔ (o ≡ none)) → (numberOf (orElse o (guard b n)) ≡ 0)
     ↔ (orElse o (guard b n) ≡ none)
 unfolding numberOf orElse
 zero-behind (some m) b n l h = h
 zero-behind none true n l h = (λ e. absurd (omega arith), λ e. absurd (none≢some (sym e)))
 zero-behind none false n l h = (λ e. refl, λ e. refl)
 
-both-none : (o : Option ℕ) (b : Bool) (n : ℕ) → (orElse o (guard b n) ≡ none) ↔ ((o ≡ none) × (¬ T b))
+pub both-none : (o : Option ℕ) (b : Bool) (n : ℕ) → (orElse o (guard b n) ≡ none) ↔ ((o ≡ none) × (¬ T b))
 unfolding orElse
 both-none (some m) b n = (λ e. absurd (none≢some (sym e)), λ h. h .0)
 both-none none true n = (λ e. absurd (none≢some (sym e)), λ h. absurd (h .1 tt))
 both-none none false n = (λ e. (refl, λ t. t), λ h. refl)
 
-only-last : (o : Option ℕ) (b : Bool) (n : ℕ) → ¬ (o ≡ some n) → (orElse o (guard b n) ≡ some n) ↔ ((o ≡ none) × T b)
+pub only-last : (o : Option ℕ) (b : Bool) (n : ℕ) → ¬ (o ≡ some n) → (orElse o (guard b n) ≡ some n) ↔ ((o ≡ none) × T b)
 unfolding orElse
 only-last (some m) b n h = (λ e. absurd (h e), λ k. absurd (none≢some (sym (k .0))))
 only-last none true n h = (λ e. (refl, tt), λ k. refl)
 only-last none false n h = (λ e. absurd (none≢some e), λ k. absurd (k .1))
 
 -- no test has so high a number
-no-such : (bound : ℕ) (tests : List (ℕ × Bool)) → T (all (λ e. ltb (e .0) bound) tests) → ¬ (firstRefusal tests ≡ some bound)
+pub no-such : (bound : ℕ) (tests : List (ℕ × Bool)) → T (all (λ e. ltb (e .0) bound) tests) → ¬ (firstRefusal tests ≡ some bound)
 unfolding all firstRefusal
 no-such bound [] h d = none≢some d
 no-such bound (e ∷ es) h d =
@@ -76,7 +76,7 @@ module _ (sheets : Sheets) (room needed : ℕ) where
       Iff·trans (numbered refusal n l)
       (with-last (theConditions drawing sheets) (theRefusal drawing sheets) (refused-iff partners01 sheetWidth sheets drawing)
       (passed-iff partners01 sheetWidth sheets drawing)
-      14 (ltb room needed) (room < needed) (ltb-tells room needed .pass) n)
+      14 (ltb room needed) (room < needed) (λ passed. ltb-tells room needed .pass) n)
 
   pub zero-none : (numberOf refusal ≡ 0) ↔ (refusal ≡ none)
   zero-none = zero-behind (theRefusal drawing sheets) (ltb room needed) 14 (omega arith) (number-zero partners01 sheetWidth sheets drawing)
@@ -86,7 +86,7 @@ module _ (sheets : Sheets) (room needed : ℕ) where
       Iff·trans zero-none
       (none-with-last (theConditions drawing sheets) (theRefusal drawing sheets) (refused-iff partners01 sheetWidth sheets drawing)
       (passed-iff partners01 sheetWidth sheets drawing)
-      14 (ltb room needed) (room < needed) (ltb-tells room needed .pass))
+      14 (ltb room needed) (room < needed) (λ passed. ltb-tells room needed .pass))
 
   pub fourteen-iff : (numberOf refusal ≡ 14) ↔ (NotRefused drawing sheets × (room < needed))
   unfolding refusalOf refusals testsFor all

@@ -19,7 +19,7 @@ use Rattle.theory.specs.Laws.UnionTests.{refuses7-iff, refuses8-iff, refuses9-i
 use Rattle.sheets.specs.Format.{termCount}
 use Rattle.sheets.specs.Refusals.{Sheets, Which, Refusal, within, onlyRules, onlyQuestion, onlyFacts, questionAndUnion, checking}
 use Rattle.sheets.specs.Refusals.{drawing, readRules, readQuestion, readUnion, refusals, testsFor, conditionsFor, refusalOf, numberOf}
-use Rattle.sheets.specs.Refusals.{ruleRefusals, questionRefusals, factRefusals}
+use Rattle.sheets.specs.Refusals.{writing, ruleRefusals, questionRefusals, factRefusals}
 use Rattle.sheets.specs.Tests.{refuses6}
 use Rattle.sheets.specs.Laws.Tests.{ltb-tells}
 use Rattle.sheets.specs.Laws.RuleRefusals.{refuses1-iff, refuses2-iff}
@@ -40,7 +40,7 @@ first-append (e ∷ es) fs =
       | false ↦ first-append es fs
     ]
 
-orElse-none : {X : Type 0} (o o′ : Option X) → (orElse o o′ ≡ none) ↔ ((o ≡ none) × (o′ ≡ none))
+pub orElse-none : {X : Type 0} (o o′ : Option X) → (orElse o o′ ≡ none) ↔ ((o ≡ none) × (o′ ≡ none))
 unfolding orElse
 orElse-none none o′ = (λ e. (refl, e), λ e. e .1)
 orElse-none (some x) o′ = (λ e. absurd (none≢some (sym e)), λ e. e .0)
@@ -48,7 +48,7 @@ orElse-none (some x) o′ = (λ e. absurd (none≢some (sym e)), λ e. e .0)
 none-along : {X : Type 0} {o o′ : Option X} → o ≡ o′ → (o ≡ none) ↔ (o′ ≡ none)
 none-along e = (λ f. sym e ∙ f, λ f. e ∙ f)
 
-one-none : (n : ℕ) (b : Bool) → (firstRefusal ((n, b) ∷ []) ≡ none) ↔ (¬ T b)
+pub one-none : (n : ℕ) (b : Bool) → (firstRefusal ((n, b) ∷ []) ≡ none) ↔ (¬ T b)
 unfolding firstRefusal
 one-none n true = (λ e. absurd (none≢some (sym e)), λ f. absurd (f tt))
 one-none n false = (λ e t. t, λ f. refl)
@@ -149,6 +149,11 @@ module _ (partners : List ℕ) (w : ℕ) (sheets : Sheets) where
   pub facts-only : refusalOf partners w onlyFacts sheets ≡ firstRefusal (factRefusals w (sheets .facts))
   unfolding refusalOf factRefusals
   facts-only = refl
+
+  pub rules-and-question : refusalOf partners w writing sheets
+      ≡ orElse (firstRefusal (ruleRefusals (sheets .rules))) (firstRefusal (questionRefusals partners w (sheets .question)))
+  unfolding refusalOf ruleRefusals questionRefusals
+  rules-and-question = first-append (ruleRefusals (sheets .rules)) (questionRefusals partners w (sheets .question))
 
   pub question-and-union : refusalOf partners w questionAndUnion sheets
       ≡ orElse (firstRefusal (questionRefusals partners w (sheets .question))) (firstRefusal unionRefusals)

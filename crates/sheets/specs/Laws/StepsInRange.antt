@@ -1,36 +1,43 @@
 -- Rules and questions that were read are in range, with roles as read; and so is all that steps make of them.
-use mathlib.Core.Path.{_≡_, refl, ap, _∙_, subst}
-use mathlib.Core.Logic.{Iff·rfl}
-use Prim.Native.Nat.{ℕ, _*_, _+_, _≤_, _<_}
+use mathlib.Core.Path.{_≡_, refl, sym, ap, _∙_, subst}
+use mathlib.Core.Logic.{inl, inr, Iff·rfl}
+use Prim.Native.Nat.{ℕ, _*_, _+_, _/_, _%_, _^_, _≤_, _<_, zero-le}
+use native.Mathlib.Nat.{mod-lt}
+use native.Mathlib.Decide.{ℕ-discrete, decLt}
 use native.Mathlib.Omega.{arith}
 use mathlib.Core.Bool.{Bool, true, false}
-use mathlib.Core.Option.{none}
-use mathlib.Core.List.{List, [], _∷_, map, map-id, Memᴰ·of-map}
-use lib.Dec.{T}
-use lib.ListN.{length, length-map}
-use Rattle.theory.specs.Lists.{pick}
+use mathlib.Core.Option.{Option, none, some}
+use mathlib.Core.List.{List, [], _∷_, map, map-id, flatMap, List·Memᴰ·head, List·Memᴰ·tail, Memᴰ·of-map, Memᴰ·cast}
+use lib.Dec.{T, eqb}
+use lib.ListN.{length, length-map, length-append}
+use Rattle.theory.specs.Lists.{_∈_, pick, toList}
 use Rattle.theory.specs.Refusals.{firstRefusal}
-use Rattle.theory.specs.Syntax.{Term, Atom, concept, role, Basic, named, has, hasInverse, Rule, conceptInclusion, roleInclusion}
-use Rattle.theory.specs.Syntax.{Query, Member, oriented, terms}
+use Rattle.theory.specs.Syntax.{Term, var, const, Atom, concept, role, Basic, named, has, hasInverse, Rule, conceptInclusion}
+use Rattle.theory.specs.Syntax.{roleInclusion, Query, Member, args, oriented, terms}
 use Rattle.theory.specs.Rewriting.{fresh, StepTo}
 use Rattle.theory.specs.Union.{SoundQuery}
-use Rattle.theory.specs.Laws.Lists.{map-agree}
+use Rattle.theory.specs.Laws.Options.{guard-some}
+use Rattle.theory.specs.Laws.Lists.{map-agree, mem-toList, flatMap-found, numbered-length}
+use Rattle.theory.specs.Laws.Syntax.{terms-atoms, terms-answers}
 use Rattle.theory.specs.Laws.Refusals.{no-refusal-iff}
 use Rattle.theory.specs.Laws.Pigeonhole.{fresh-small, terms-few}
 use Rattle.theory.specs.Laws.Rules.{AtomOf, BasicOf, LeftOf}
 use Rattle.theory.specs.Laws.StepShape.{step-arity, step-few, step-some, step-keeps}
-use Rattle.words.specs.Limits.{variableBound, mostTerms, mostAtoms}
-use Rattle.sheets.specs.Format.{rulesOf, queryAt}
+use Rattle.words.specs.Limits.{variableBound, mostTerms, mostAtoms, mostRuleBytes, answerBytes, recordBytes}
+use Rattle.words.specs.Records.{ruleKind, leftForm, leftName, rightForm, rightName, isRule, basicOf, ruleIn, ruleOf, termOf, atomKind}
+use Rattle.words.specs.Records.{atomName, atomFirst, atomSecond, atomOf}
+use Rattle.sheets.specs.Bits.{numberAt}
+use Rattle.sheets.specs.Conditions.{CountOut, VariableOut}
+use Rattle.sheets.specs.Format.{recordsFrom, ruleRecords, rulesOf, termCount, atomCount, answerRecords, atomRecords, queryAt}
 use Rattle.sheets.specs.Partners.{isHigher, lower, atomAsRead, basicAsRead, ruleAsRead, queryAsRead, memberAsRead}
 use Rattle.sheets.specs.Reading.{rulesAsRead, questionAsRead}
 use Rattle.sheets.specs.Tests.{refuses1, refuses2, refuses3, refuses4, refuses5}
 use Rattle.sheets.specs.Refusals.{ruleRefusals, questionRefusals}
-use Rattle.sheets.specs.Packing.{nameOf, All, IsByte, IsName, RuleInRange, RulesInRange, TermInRange, AtomInRange, QueryInRange}
-use Rattle.sheets.specs.Packing.{WholeBytes}
+use Rattle.sheets.specs.Packing.{nameOf, All, IsName, RuleInRange, RulesInRange, TermInRange, AtomInRange, QueryInRange}
+use Rattle.sheets.specs.Laws.PackingNumbers.{pow-pos}
 use Rattle.sheets.specs.Laws.PartnerLaws.{Involutive, Settled, lower-own, lower-le, settled-atom, atomAsRead-again, ruleAsRead-again}
-use Rattle.sheets.specs.Laws.QuestionRefusals.{not4-safe, not5-unrepeated}
-use Rattle.sheets.specs.Laws.PackingSheets.{read-rules-in}
-use Rattle.sheets.specs.Laws.PackingQueries.{read-question-in}
+use Rattle.sheets.specs.Laws.RuleRefusals.{refuses1-iff}
+use Rattle.sheets.specs.Laws.QuestionRefusals.{refuses3-iff, not4-safe, not5-unrepeated}
 
 -- ---- steps stay in range
 
@@ -75,6 +82,98 @@ module _ (w : ℕ) where
         few-atoms = omega arith;
         answers-in = kept .0;
         atoms-in = λ a m. named-atom a (kept .1 a m);
+      }
+
+-- ---- what a record says is in range, whatever bytes it has: names and objects are fields of as many bits
+
+basic-in : (form n : ℕ) → IsName n → IsName (nameOf (basicOf form n))
+unfolding basicOf
+basic-in form n h =
+    elim (eqb form 0) as (λ b. IsName (nameOf (pick b (named n) (pick (eqb form 1) (has n) (hasInverse n))))) [
+      | true ↦ h
+      | false ↦ elim (eqb form 1) as (λ b. IsName (nameOf (pick b (has n) (hasInverse n)))) [ true ↦ h | false ↦ h ]
+    ]
+
+rule-in : (x : ℕ) → RuleInRange (ruleIn x)
+unfolding ruleIn
+rule-in x =
+    let left : IsName (leftName x) = omega arith in
+    let right : IsName (rightName x) = omega arith in
+    elim (eqb (ruleKind x) 1) as
+    (λ b. RuleInRange (pick b (conceptInclusion (basicOf (leftForm x) (leftName x)) (basicOf (rightForm x) (rightName x)))
+    (roleInclusion (leftName x) (eqb (rightForm x) 1) (rightName x)))) [
+      | true ↦ (basic-in (leftForm x) (leftName x) left, basic-in (rightForm x) (rightName x) right)
+      | false ↦ (left, right)
+    ]
+
+at-most-one : {Y : Type 0} (o : Option Y) → length (toList o) ≤ 1
+unfolding toList
+at-most-one none = zero-le
+at-most-one (some y) = omega arith
+
+found-few : {X Y : Type 0} (f : X → Option Y) (xs : List X) → length (flatMap (λ x. toList (f x)) xs) ≤ length xs
+unfolding flatMap
+found-few f [] = zero-le
+found-few f (x ∷ xs) =
+    omega (arith, found-few f xs, length-append (toList (f x)) (flatMap (λ x. toList (f x)) xs), at-most-one (f x))
+
+rules-in : (s : List ℕ) → ¬ T (refuses1 s) → RulesInRange (rulesOf s)
+unfolding rulesOf ruleOf recordsFrom
+rules-in s not1 =
+    let few : length (rulesOf s) ≤ length (ruleRecords s) = found-few ruleOf (ruleRecords s) in
+    let many : length (ruleRecords s) ≡ length s / 4 = numbered-length (λ i. numberAt s (0 + 4 * i) 4) (length s / 4) in (
+      elim (decLt mostRuleBytes (length s)) [ yes l ↦ absurd (not1 (refuses1-iff s .1 (inr l))) | no f ↦ omega arith ],
+      λ r m. (let (x, k, n) = flatMap-found (λ x. toList (ruleOf x)) (ruleRecords s) m in
+          subst RuleInRange (guard-some (isRule x) (mem-toList (ruleOf x) .0 n) .1) (rule-in x)),
+    )
+
+module _ (w : ℕ) where
+  term-in : (t : ℕ) → ((v : ℕ) → termOf w t ≡ var v → v < variableBound) → TermInRange w (termOf w t)
+  unfolding termOf
+  term-in t low = cases (eqb (t / 2 ^ w) 0) low
+    where
+      cases : (b : Bool) → ((v : ℕ) → pick b (var (t % 2 ^ w)) (const (t % 2 ^ w)) ≡ var v → v < variableBound)
+          → TermInRange w (pick b (var (t % 2 ^ w)) (const (t % 2 ^ w)))
+      cases true low = low (t % 2 ^ w) refl
+      cases false low = mod-lt t (pow-pos w)
+
+  atom-in : (x : ℕ) → ((v : ℕ) → var v ∈ args (atomOf w x) → v < variableBound) → AtomInRange w (atomOf w x)
+  unfolding atomOf
+  atom-in x low = cases (eqb (atomKind w x) 0) low
+    where
+      name : IsName (atomName w x)
+      name = mod-lt (x / 2 ^ (2 * w + 2)) (pow-pos 12)
+
+      cases : (b : Bool)
+          → ((v : ℕ) → var v ∈ args (pick b (concept (atomName w x) (termOf w (atomFirst w x)))
+          (role (atomName w x) (termOf w (atomFirst w x)) (termOf w (atomSecond w x)))) → v < variableBound)
+          → AtomInRange w (pick b (concept (atomName w x) (termOf w (atomFirst w x)))
+          (role (atomName w x) (termOf w (atomFirst w x)) (termOf w (atomSecond w x))))
+      cases true low = (name, term-in (atomFirst w x) (λ v e. low v (List·Memᴰ·head (sym e))))
+      cases false low = (
+        name,
+        term-in (atomFirst w x) (λ v e. low v (List·Memᴰ·head (sym e))),
+        term-in (atomSecond w x) (λ v e. low v (List·Memᴰ·tail (List·Memᴰ·head (sym e)))),
+      )
+
+  query-in : (s : List ℕ) (at : ℕ) → ¬ CountOut s at → ¬ VariableOut w s at → QueryInRange w (queryAt w s at)
+  unfolding queryAt
+  query-in s at counts low =
+      let q : Query = queryAt w s at in
+      let terms-are : length (q .answers) ≡ termCount s at = length-map (answerRecords w s at) (termOf w)
+      ∙ numbered-length (λ i. numberAt s (at + 1 + answerBytes w * i) (answerBytes w)) (termCount s at) in
+      let atoms-are : length (q .atoms) ≡ atomCount s at = length-map (atomRecords w s at) (atomOf w)
+      ∙ numbered-length (λ i. numberAt s (at + 1 + answerBytes w * termCount s at + recordBytes w * i) (recordBytes w)) (atomCount s at) in
+      let below : (v : ℕ) → var v ∈ terms q → v < variableBound =
+      λ v m. elim (decLt v variableBound) [ yes l ↦ l | no f ↦ absurd (low (v, m, omega arith)) ] in
+      record {
+        few-answers = elim (decLt mostTerms (termCount s at)) [ yes l ↦ absurd (counts (inl l)) | no f ↦ omega arith ];
+        some-atom = elim (ℕ-discrete (atomCount s at) 0) [ yes e ↦ absurd (counts (inr (inl e))) | no f ↦ omega arith ];
+        few-atoms = elim (decLt mostAtoms (atomCount s at)) [ yes l ↦ absurd (counts (inr (inr l))) | no f ↦ omega arith ];
+        answers-in = λ t m. (let (x, k, e) = Memᴰ·of-map (termOf w) (answerRecords w s at) m in
+            subst (TermInRange w) e (term-in x (λ v d. below v (terms-answers q (Memᴰ·cast (sym (sym e ∙ d)) m)))));
+        atoms-in = λ a m. (let (x, k, e) = Memᴰ·of-map (atomOf w) (atomRecords w s at) m in
+            subst (AtomInRange w) e (atom-in x (λ v n. below v (terms-atoms q m (subst (λ (b : Atom Term). var v ∈ args b) e n)))));
       }
 
 -- ---- steps keep roles as read
@@ -174,19 +273,18 @@ module _ (partners : List ℕ) where
   rule-read-in (conceptInclusion left right) h = (basic-read-in left (h .0), basic-read-in right (h .1))
   rule-read-in (roleInclusion P exchanged Q) h = (lower-name P (h .0), lower-name Q (h .1))
 
-  pub rules-read-in : (w : ℕ) (s : List ℕ) → All IsByte s → ¬ T (refuses1 s) → ¬ T (refuses2 s) → RulesInRange (rulesAsRead partners w s)
+  pub rules-read-in : (w : ℕ) (s : List ℕ) → ¬ T (refuses1 s) → RulesInRange (rulesAsRead partners w s)
   unfolding rulesAsRead
-  rules-read-in w s bytes not1 not2 =
-      let h = read-rules-in s bytes not1 not2 in (
+  rules-read-in w s not1 =
+      let h = rules-in s not1 in (
         rw (length-map (rulesOf s) (ruleAsRead partners)) (h .0),
         λ rule m. (let (r, k, e) = Memᴰ·of-map (ruleAsRead partners) (rulesOf s) m in subst RuleInRange e (rule-read-in r (h .1 r k))),
       )
 
-  pub question-read-in : (w : ℕ) → WholeBytes w → (s : List ℕ) → All IsByte s → ¬ T (refuses3 w s)
-      → QueryInRange w (questionAsRead partners w s)
+  pub question-read-in : (w : ℕ) (s : List ℕ) → ¬ T (refuses3 w s) → QueryInRange w (questionAsRead partners w s)
   unfolding questionAsRead queryAsRead
-  question-read-in w whole s bytes not3 =
-      let h = read-question-in w whole s bytes not3 in
+  question-read-in w s not3 =
+      let h = query-in w s 0 (λ c. not3 (refuses3-iff w s .1 (inl c))) (λ v. not3 (refuses3-iff w s .1 (inr (inr (inl v))))) in
       let size : length (map (atomAsRead partners) (queryAt w s 0 .atoms)) ≡ length (queryAt w s 0 .atoms) =
       length-map (queryAt w s 0 .atoms) (atomAsRead partners) in
       record {
