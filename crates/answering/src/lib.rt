@@ -1,4 +1,4 @@
-// The library: a union checked against rules and question, answers drawn with it from facts, and a member shown.
+// The entries that a union is handed to: it is checked against rules and question, answers are drawn with it from facts, a member is shown.
 use answer_draw::Answers;
 use answer_draw::refuse;
 use answer_stages::draw_members;
@@ -6,13 +6,11 @@ use check_sheet::check_members;
 use read_question::read_question;
 use read_records::partners::default_partners;
 use read_rules::read_rules;
-use read_shown::member_place;
 use words::limits::MOST_RULES;
 ghost use mathlib.Core.Path.{_≡_};
 ghost use lib.ListN.{length};
 ghost use Rattle.promises.specs.Checking.{Checked};
 ghost use Rattle.promises.specs.Drawing.{Drawn};
-ghost use Rattle.promises.specs.Showing.{Shown};
 ghost use Rattle.promises.specs.TheSheets.{thePart};
 
 // Checks a union against rules and question: the number of the first refusal of 1 to 11 that applies, 0 where the union is accepted.
@@ -30,14 +28,6 @@ pub fn check(rules: &[u8], question: &[u8], union: &[u8]) -> u32
         return asked.number;
     }
     check_members(&table, inclusions.count, asked.query, union, &partners)
-}
-
-// The same for C and Rust, each sheet as pointer and length.
-#[no_mangle]
-pub extern "C" fn takwishan_check(rules: &[u8], question: &[u8], union: &[u8]) -> u32
-    ensures { λ r. ⌜ Checked (now (rules .entry)) (now (question .entry)) (now (union .entry)) r ⌝ }
-{
-    check(rules, question, union)
 }
 
 // Draws the answers of an accepted union from facts into the list: the number of the first refusal of 1 to 14 that applies, or 0, and the
@@ -68,45 +58,10 @@ pub fn answer(rules: &[u8], question: &[u8], union: &[u8], facts: &[u8], list: &
     )
 }
 
-// The same for C and Rust, each sheet and the list as pointer and length.
-#[no_mangle]
-pub extern "C" fn takwishan_answer(
-    rules: &[u8],
-    question: &[u8],
-    union: &[u8],
-    facts: &[u8],
-    list: &mut [u8],
-) -> Answers
-    ensures { λ r. ⌜ Drawn (now (rules .entry)) (now (question .entry)) (now (union .entry)) (now (facts .entry))
-        (length (now (list .entry))) (r .number) (r .count) (now (list .exit)) ⌝ }
-{
-    answer(rules, question, union, facts, list)
-}
-
 // The part of the caller's sheet that holds the question of member m; an empty part if the sheet meets 6 on its own or has no such member.
 pub fn member<'a>(sheet: &'a [u8], m: usize) -> &'a [u8]
     ensures { λ r. ⌜ now r ≡ thePart (now (sheet .entry)) m ⌝ }
 {
     let partners = default_partners();
     read_shown::member(sheet, m, &partners)
-}
-
-// Where a part of a sheet begins, and how many bytes it has.
-#[repr(C)]
-pub struct Part {
-    pub start: usize,
-    pub length: usize,
-}
-
-// The place of the part that `member` hands back: where it begins, 0 for an empty part, and its length.
-#[no_mangle]
-pub extern "C" fn takwishan_member(sheet: &[u8], m: usize) -> Part
-    ensures { λ r. ⌜ Shown (now (sheet .entry)) m (r .start) (r .length) ⌝ }
-{
-    let partners = default_partners();
-    let place = member_place(sheet, m, &partners);
-    Part {
-        start: place.start,
-        length: place.length,
-    }
 }

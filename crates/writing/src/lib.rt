@@ -83,12 +83,3 @@ pub fn write(rules: &[u8], question: &[u8], sheet: &mut [u8]) -> Written
     }
     write_read(&table, inclusions.count, asked.query, sheet)
 }
-
-// The same for C and Rust, each sheet as pointer and length.
-#[no_mangle]
-pub extern "C" fn takwishan_write(rules: &[u8], question: &[u8], sheet: &mut [u8]) -> Written
-    ensures { λ r. ⌜ UnionWritten (now (rules .entry)) (now (question .entry)) (length (now (sheet .entry))) (r .number) (r .count) (r .length)
-        (now (sheet .exit)) ⌝ }
-{
-    write(rules, question, sheet)
-}
