@@ -54,6 +54,7 @@ lostTags =
       count = 2;
       answers = 0 ∷ 9 ∷ 0xfd ∷ 0xff ∷ [];
       printed = some (ascii "accepted 2\n9\n65023\n");
+      written = none;
     }
     -- "the room for the list is reckoned without it"
     ∷ record {
@@ -67,6 +68,7 @@ lostTags =
       count = 2;
       answers = 0 ∷ 9 ∷ 0xfd ∷ 0xff ∷ [];
       printed = none;
+      written = none;
     }
     ∷ record {
       rules = rules1;
@@ -79,6 +81,7 @@ lostTags =
       count = 0;
       answers = [];
       printed = none;
+      written = none;
     }
     -- in whichever place of the tuple
     ∷ record {
@@ -92,6 +95,7 @@ lostTags =
       count = 1;
       answers = 0 ∷ 10 ∷ 0xfd ∷ 0xff ∷ [];
       printed = none;
+      written = none;
     }
     -- a question without answers, not refused even where there is no list
     ∷ record {
@@ -105,6 +109,7 @@ lostTags =
       count = 0;
       answers = [];
       printed = none;
+      written = some (2, unionLost);
     }
     -- without answer terms nothing is left out: A(65,024)
     ∷ record {
@@ -118,6 +123,7 @@ lostTags =
       count = 1;
       answers = [];
       printed = none;
+      written = none;
     }
     ∷ []
 
