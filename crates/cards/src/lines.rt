@@ -2,6 +2,8 @@
 use answering::answer;
 use answering::check;
 use libc::STDOUT_FILENO;
+use writing::Written;
+use writing::write;
 
 // Prints some bytes.
 fn print(text: &[u8]) {
@@ -48,4 +50,39 @@ pub fn checked(name: &[u8], rules: &[u8], question: &[u8], union: &[u8]) {
     print(b": number ");
     io::print_decimal(STDOUT_FILENO, wide(number));
     print(b"\n");
+}
+
+// Prints what a call that writes a union gave beside the sheet.
+fn print_made(made: Written) {
+    print(b": number ");
+    io::print_decimal(STDOUT_FILENO, wide(made.number));
+    print(b", count ");
+    io::print_decimal(STDOUT_FILENO, made.count);
+    print(b", length ");
+    io::print_decimal(STDOUT_FILENO, made.length);
+}
+
+// Prints a union that was written, byte by byte, and the number that checking it gives.
+fn print_union(rules: &[u8], question: &[u8], union: &[u8]) {
+    print(b", union ");
+    print_bytes(union);
+    print(b", checked ");
+    io::print_decimal(STDOUT_FILENO, wide(check(rules, question, union)));
+    print(b"\n");
+}
+
+// Prints the union at the beginning of a sheet. (A union that is longer than its sheet there is none.)
+fn print_beginning(rules: &[u8], question: &[u8], sheet: &[u8], size: usize) {
+    if size <= sheet.len() {
+        print_union(rules, question, &sheet[..size]);
+    }
+}
+
+// Writes the union of rules and question, and prints number, count and length, every byte of the union, and what checking it gives.
+pub fn written(name: &[u8], rules: &[u8], question: &[u8]) {
+    let mut sheet = [0xffu8; 256];
+    let made = write(rules, question, &mut sheet);
+    print(name);
+    print_made(made);
+    print_beginning(rules, question, &sheet, made.length as usize);
 }

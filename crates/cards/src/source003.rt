@@ -1,6 +1,7 @@
 // Unions from source document 003, with the members that PerfectRef, as 01 has it, gives.
 use crate::lines::checked;
 use crate::lines::drawn;
+use crate::lines::written;
 
 // 003, section 3.1, its sheets record by record: in the union each line is a step and a question.
 fn section_3_1() {
@@ -30,6 +31,7 @@ fn section_3_1() {
         \x40\x01\x00\x01\x12\x00\x00\x00\x80\x40\x00\x00\x00\x01\x80\x40\x00\x04\x00\x01\
         \x80\x10\x00\x01\x11\x00\x00\x00\x80\x40\x00\x00\x00\x01";
     checked(b"003, section 3.1, without the last", rules, question, open);
+    written(b"003, section 3.1, written", rules, question);
 }
 
 // 003, example 1, its sheets record by record: in the union each line is a step and a question.
@@ -56,6 +58,7 @@ fn example_1() {
         \x00\x00\x00\x00\x13\x00\x00\x00\x80\x44\x00\x00\x00\x01\x80\x44\x00\x04\x00\x01\x00\x08\x00\x04\x00\x00\
         \x80\x00\x00\x01\x12\x00\x00\x00\x80\x44\x00\x00\x00\x01\x00\x08\x00\x00\x00\x00";
     checked(b"003, example 1, without the last", rules, question, open);
+    written(b"003, example 1, written", rules, question);
 }
 
 // 003, example 3, first, its sheets record by record: in the union each line is a step and a question.
@@ -86,6 +89,7 @@ fn example_3() {
         question,
         open,
     );
+    written(b"003, example 3, first, written", rules, question);
 }
 
 // 003, example 3, second, its sheets record by record: in the union each line is a step and a question.
@@ -110,6 +114,7 @@ fn example_3_twice() {
         union,
         facts,
     );
+    written(b"003, example 3, second, written", rules, question);
 }
 
 // 003, section 2.4, its sheets record by record: in the union each line is a step and a question.
@@ -146,6 +151,7 @@ fn section_2_4() {
         \x80\x30\x00\x01\x11\x00\x00\x00\x80\x48\x00\x00\x00\x01\
         \x40\x40\x00\x00\x11\x00\x00\x00\x00\x08\x00\x00\x00\x00";
     checked(b"003, section 2.4, without the last", rules, question, open);
+    written(b"003, section 2.4, written", rules, question);
 }
 
 // All of them.

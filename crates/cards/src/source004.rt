@@ -1,6 +1,7 @@
 // Unions from source document 004, the same rules once as they stand and once with one appended.
 use crate::lines::checked;
 use crate::lines::drawn;
+use crate::lines::written;
 
 // 004, example 1, its sheets record by record: in the union each line is a step and a question.
 fn example_1() {
@@ -23,6 +24,7 @@ fn example_1() {
         \x00\x00\x00\x00\x12\x00\x00\x00\x80\x48\x00\x00\x00\x01\x80\x40\x00\x00\x00\x01\
         \x40\x01\x00\x00\x11\x00\x00\x00\x80\x48\x00\x00\x00\x01";
     checked(b"004, example 1, without the last", rules, question, open);
+    written(b"004, example 1, written", rules, question);
 }
 
 // 004, example 1, longer, its sheets record by record: in the union each line is a step and a question.
@@ -60,6 +62,7 @@ fn example_1_longer() {
         question,
         open,
     );
+    written(b"004, example 1, longer, written", rules, question);
 }
 
 // 004, example 2, its sheets record by record: in the union each line is a step and a question.
@@ -81,6 +84,7 @@ fn example_2() {
     let open = b"\x00\x01\
         \x00\x00\x00\x00\x12\x00\x00\x00\x80\x44\x00\x00\x00\x01\x80\x40\x00\x00\x00\x01";
     checked(b"004, example 2, without the last", rules, question, open);
+    written(b"004, example 2, written", rules, question);
 }
 
 // 004, example 2, longer, its sheets record by record: in the union each line is a step and a question.
@@ -122,6 +126,7 @@ fn example_2_longer() {
         question,
         open,
     );
+    written(b"004, example 2, longer, written", rules, question);
 }
 
 // All of them.

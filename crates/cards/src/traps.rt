@@ -2,6 +2,7 @@
 // place has the same bits.
 use crate::lines::checked;
 use crate::lines::drawn;
+use crate::lines::written;
 
 // loop, its sheets record by record: in the union each line is a step and a question.
 fn looped() {
@@ -15,6 +16,7 @@ fn looped() {
     // A(5)
     let facts = b"\x00\x01\x00\x05\x00\x00";
     drawn(b"loop, 1 member", rules, question, union, facts);
+    written(b"loop, written", rules, question);
 }
 
 // zero bits, its sheets record by record: in the union each line is a step and a question.
@@ -38,6 +40,7 @@ fn zero_bits() {
     let open = b"\x00\x01\
         \x00\x00\x00\x00\x12\x00\x00\x01\x80\x40\x00\x02\x00\x00\x00\x04\x00\x02\x00\x00";
     checked(b"zero bits, without the last", rules, question, open);
+    written(b"zero bits, written", rules, question);
 }
 
 // All of them.
