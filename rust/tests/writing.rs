@@ -26,6 +26,14 @@ fn k1_is_written_as_it_is_stored() {
     assert_eq!(written(&k1.rules, &k1.question, 30), (Ok(size), k1.union));
 }
 
+/// The union of a case of T-02 is the one that is written for its rules and question.
+#[test]
+fn cases_of_t_02_are_written_as_they_are_stored() {
+    for case in vectors::all().into_iter().filter(|case| case.name.starts_with("T02-")) {
+        assert_eq!(write(&case.rules, &case.question), Ok(case.union), "{}", case.name);
+    }
+}
+
 #[test]
 fn bytes_after_the_union_are_zero() {
     let k1 = case("K1");
