@@ -1,7 +1,7 @@
 -- 01's cards K1 to K8 from bytes: number, count and every byte of the list follow from the definition that the contract of drawing
--- names, and the printed lines, where 01 gives them, from the one that the program's contract names. So does the union that is written for
--- a card's rules and question (02, T-02): K1, K3, K5 and K6 give exactly the members that 01 lists. A is concept 1 and P role 16, which has no
--- partner; x, y, z, w are variables 0 to 3.
+-- names, and the printed lines, where 01 gives them, from the one that the program's contract names. So does the union that is written
+-- for a card's rules and question (02, T-02): K1, K3, K5 and K6 give exactly the members that 01 lists. A is concept 1 and P role 16, which
+-- has no partner; x, y, z, w are variables 0 to 3.
 use mathlib.Core.Path.{_≡_, refl}
 use Prim.Native.Nat.{ℕ, _+_, _-_}
 use mathlib.Core.Bool.{Bool, true, _&&_}
