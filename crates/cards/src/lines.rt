@@ -71,7 +71,7 @@ fn print_union(rules: &[u8], question: &[u8], union: &[u8]) {
     print(b"\n");
 }
 
-// Prints the union at the beginning of a sheet. (A union that is longer than its sheet there is none.)
+// Prints the union at the beginning of a sheet; nothing if it were longer than the sheet, which no union that was written is.
 fn print_beginning(rules: &[u8], question: &[u8], sheet: &[u8], size: usize) {
     if size <= sheet.len() {
         print_union(rules, question, &sheet[..size]);
