@@ -1,4 +1,4 @@
--- The program's four files and the buffers that they are read into. 01: "It reads rules.bin, question.bin, union.bin and facts.bin; an
+-- The programs' files and the buffers that they are read into. 01: "It reads rules.bin, question.bin, union.bin and facts.bin; an
 -- absent file is empty, one over its limit (2,048, 61, 33,282 and 60,000 bytes in that order) meets 1, 3, 6 or 12."
 use mathlib.Core.Path.{_≡_}
 use mathlib.Core.Logic.{_⊎_}
@@ -9,6 +9,7 @@ use lib.ListN.{length, take}
 use Rattle.words.specs.Limits.{sheetWidth, mostRuleBytes, mostQuestionBytes, mostUnionBytes, mostFactBytes}
 use Rattle.promises.specs.Ascii.{ascii}
 use Rattle.promises.specs.Text.{textFor}
+use Rattle.promises.specs.Output.{outputFor, errorFor}
 use Rattle.io.specs.Counts.{Counts}
 
 -- ---- names and limits
@@ -85,6 +86,16 @@ pub record Filled (rules : List ℕ) (r : ℕ) (question : List ℕ) (q : ℕ) (
   pub ofUnion : Counts u union
   pub ofFacts : Counts f facts
 
+-- the first two of them, which are all that `write_union` reads
+pub record TwoRooms (rules question : List ℕ) : Type 0 where
+  pub ofRules : length rules ≡ suc rulesLimit
+  pub ofQuestion : length question ≡ suc questionLimit
+
+pub record TwoFilled (rules : List ℕ) (r : ℕ) (question : List ℕ) (q : ℕ) : Type 0 where
+  pub rooms : TwoRooms rules question
+  pub ofRules : Counts r rules
+  pub ofQuestion : Counts q question
+
 -- ---- the text
 
 -- so many bytes of a file were read into a buffer: its first, up to its end or to the buffer's. This is what reading is taken to do; what
@@ -110,3 +121,25 @@ pub record Printable (text : List ℕ) : Type 0 where
   pub union : List ℕ
   pub facts : List ℕ
   pub whole : text ≡ textFor rules question union facts
+
+-- ---- what `write_union` writes
+
+-- what goes to standard output and to standard error, for two buffers with so many bytes read into each
+pub record OutputOf (rules : List ℕ) (r : ℕ) (question : List ℕ) (q : ℕ) (output error : List ℕ) : Type 0 where
+  -- what was read is two sheets, and this is written for them
+  pub sheets-output : output ≡ outputFor (take r rules) (take q question)
+  pub sheets-error : error ≡ errorFor (take r rules) (take q question)
+  -- and it is what is written for the two files that were read, however long they are
+  pub files : (rules′ question′ : List ℕ) → HoldsFile rules′ rules r → HoldsFile question′ question q
+      → (output ≡ outputFor rules′ question′) × (error ≡ errorFor rules′ question′)
+
+-- bytes that may go to standard output, a line that may go to standard error: those of some two sheets, whole
+pub record Output (bytes : List ℕ) : Type 0 where
+  pub rules : List ℕ
+  pub question : List ℕ
+  pub whole : bytes ≡ outputFor rules question
+
+pub record ErrorLine (text : List ℕ) : Type 0 where
+  pub rules : List ℕ
+  pub question : List ℕ
+  pub whole : text ≡ errorFor rules question

@@ -1,8 +1,8 @@
-// The four sheets from their files.
+// The sheets from their files.
 use libc::ENOENT;
 ghost use Prim.Native.Nat.{_≤_};
 ghost use lib.ListN.{length};
-ghost use Rattle.program_files.specs.Files.{Reads, Grown, Taken, Rooms, Filled};
+ghost use Rattle.program_files.specs.Files.{Reads, Grown, Taken, Rooms, Filled, TwoRooms, TwoFilled};
 
 // What came of reading: whether nothing failed, and how many bytes came.
 pub struct Reading {
@@ -114,5 +114,26 @@ pub fn read_files(
         question: q.length,
         union: u.length,
         facts: f.length,
+    }
+}
+
+// How many bytes were read of the rules and of the question; `whole` says that neither failed.
+pub struct TwoLengths {
+    pub whole: bool,
+    pub rules: usize,
+    pub question: usize,
+}
+
+// Reads the first two files, as far as the first that can't be read.
+pub fn read_two_files(rules: &mut [u8], question: &mut [u8]) -> TwoLengths
+    requires { ⌜ TwoRooms (now rules) (now question) ⌝ }
+    ensures { λ r. ⌜ TwoFilled (now (rules .exit)) (r .rules) (now (question .exit)) (r .question) ⌝ }
+{
+    let r = read_sheet(b"rules.bin", rules);
+    let q = read_next(r.whole, b"question.bin", question);
+    TwoLengths {
+        whole: q.whole,
+        rules: r.length,
+        question: q.length,
     }
 }

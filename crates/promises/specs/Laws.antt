@@ -9,3 +9,4 @@ pub mod LostTags
 pub mod WritePromises
 pub mod Printing
 pub mod Cut
+pub mod Output

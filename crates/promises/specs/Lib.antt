@@ -7,4 +7,5 @@ pub mod Writing
 pub mod Ascii
 pub mod Report
 pub mod Text
+pub mod Output
 pub mod Laws

@@ -1,16 +1,16 @@
 -- The program prints for what it read what it would print for the whole files.
-use mathlib.Core.Path.{_≡_, sym, ap, ap₂, _∙_}
-use mathlib.Core.Logic.{inl, inr}
-use Prim.Native.Nat.{ℕ, suc, _/_, _≤_}
+use mathlib.Core.Path.{_≡_, ap, ap₂, _∙_}
+use Prim.Native.Nat.{ℕ, suc, _/_}
 use native.Mathlib.Omega.{arith}
 use mathlib.Core.List.{List}
-use lib.ListN.{length, take}
-use lib.Seq.{getD-take, take-all}
+use lib.ListN.{take}
+use lib.Seq.{getD-take}
 use Rattle.promises.specs.Drawing.{Outcome}
 use Rattle.promises.specs.Report.{report}
 use Rattle.promises.specs.Text.{listRoom, textFor}
 use Rattle.promises.specs.Laws.Cut.{cutTo, cut-same}
-use Rattle.program_files.specs.Files.{rulesLimit, questionLimit, unionLimit, factsLimit, HoldsFile, Filled, TextOf}
+use Rattle.program_files.specs.Files.{rulesLimit, questionLimit, unionLimit, factsLimit, Filled, TextOf}
+use Rattle.program_files.specs.FileCuts.{read-first}
 
 -- one byte beyond each limit is enough
 pub read-enough : (rules question union facts : List ℕ)
@@ -20,17 +20,6 @@ unfolding textFor
 read-enough rules question union facts =
     ap₂ (λ (o : Outcome) (n : ℕ). report (o .number) (o .count) n (o .list)) (cut-same listRoom rules question union facts)
     (ap (λ n. n / 16) (getD-take (suc questionLimit) question 0 0 (omega arith)))
-
--- what was read of a file into a buffer with room for one byte beyond the limit
-read-first : (limit : ℕ) (file buffer : List ℕ) (count : ℕ) → length buffer ≡ suc limit → count ≤ length buffer
-    → HoldsFile file buffer count
-    → take count buffer ≡ cutTo limit file
-read-first limit file buffer count room within read =
-    read .bytes
-    ∙ elim (read .ended) [
-      | inl e ↦ take-all count file (omega arith) ∙ sym (take-all (suc limit) file (omega arith))
-      | inr e ↦ ap (λ n. take n file) (e ∙ room)
-    ]
 
 -- the text of what was read is that of the files
 pub whole-files : (rules question union facts text : List ℕ) (r q u f : ℕ) → Filled rules r question q union u facts f

@@ -36,7 +36,7 @@ or-true : (b : Bool) → b || true ≡ true
 or-true true = refl
 or-true false = refl
 
-long-rules : (s : List ℕ) → mostRuleBytes < length s → firstRefusal (ruleRefusals s) ≡ some 1
+pub long-rules : (s : List ℕ) → mostRuleBytes < length s → firstRefusal (ruleRefusals s) ≡ some 1
 unfolding firstRefusal ruleRefusals refuses1
 long-rules s h = rw (lt-ltb mostRuleBytes (length s) h, or-true)
 
@@ -54,7 +54,7 @@ question-over s h = go (refuses3 sheetWidth s) refl
         let (terms, one, atoms) = counts-in-range sheetWidth s 0 sound in
         absurd (omega arith)
 
-long-question : (s : List ℕ) → mostQuestionBytes sheetWidth < length s → firstRefusal (questionRefusals partners01 sheetWidth s) ≡ some 3
+pub long-question : (s : List ℕ) → mostQuestionBytes sheetWidth < length s → firstRefusal (questionRefusals partners01 sheetWidth s) ≡ some 3
 unfolding firstRefusal questionRefusals
 long-question s h = rw (question-over s h)
 
@@ -66,6 +66,15 @@ long-union : (arity : ℕ) (s : List ℕ) → mostUnionBytes sheetWidth < length
     → firstRefusal ((6, refuses6 partners01 sheetWidth arity s) ∷ []) ≡ some 6
 unfolding firstRefusal
 long-union arity s h = rw (not-false (refuses6 partners01 sheetWidth arity s) (too-long partners01 s arity h))
+
+-- one file read as far as one byte beyond its limit, if that changes nothing where it is longer
+pub one-cut : {X : Type 0} (limit : ℕ) (s : List ℕ) (call : List ℕ → X)
+    → (limit < length (cutTo limit s) → limit < length s → call (cutTo limit s) ≡ call s) → call (cutTo limit s) ≡ call s
+one-cut limit s call same =
+    elim (lt-or-le limit (length s)) [
+      | inl l ↦ same (let e : length (cutTo limit s) ≡ suc limit = length-take-le (suc limit) s (omega arith) in omega arith) l
+      | inr l ↦ ap call (take-all (suc limit) s (omega arith))
+    ]
 
 -- ---- a call by its sheets' refusals, one after the other
 
@@ -161,15 +170,6 @@ module _ (room : ℕ) where
       stop (some n) = refl
 
   -- ---- what is read of each file
-
-  -- one file read as far as one byte beyond its limit, if that changes nothing where it is longer
-  one-cut : (limit : ℕ) (s : List ℕ) (call : List ℕ → Outcome)
-      → (limit < length (cutTo limit s) → limit < length s → call (cutTo limit s) ≡ call s) → call (cutTo limit s) ≡ call s
-  one-cut limit s call same =
-      elim (lt-or-le limit (length s)) [
-        | inl l ↦ same (let e : length (cutTo limit s) ≡ suc limit = length-take-le (suc limit) s (omega arith) in omega arith) l
-        | inr l ↦ ap call (take-all (suc limit) s (omega arith))
-      ]
 
   pub cut-same : (r q u f : List ℕ)
       → outcome (cutTo mostRuleBytes r) (cutTo (mostQuestionBytes sheetWidth) q) (cutTo (mostUnionBytes sheetWidth) u)

@@ -1,13 +1,13 @@
 -- What is promised of writing (02, T-02), and what the pledge rests on.
 use mathlib.Core.Path.{_≡_, refl, sym, ap, _∙_, subst}
 use mathlib.Core.Logic.{_⊎_, inl, inr, _↔_, _≢_, Iff·trans}
-use Prim.Native.Nat.{ℕ, _-_, _≤_, _<_}
+use Prim.Native.Nat.{ℕ, _-_, _≤_, _<_, zero-le}
 use native.Mathlib.Omega.{arith}
 use mathlib.Core.Bool.{Bool, true, false}
 use mathlib.Core.Option.{Option, none, some, orElse}
 use mathlib.Core.List.{List, [], _∷_, _++_, append-assoc}
 use lib.Dec.{T, ltb}
-use lib.ListN.{length, take, drop, replicate}
+use lib.ListN.{length, take, drop, replicate, length-append}
 use lib.Seq.{take-append-seam, drop-append-seam}
 use Rattle.theory.specs.Lists.{all, guard}
 use Rattle.theory.specs.Refusals.{firstRefusal, First, NoneHolds}
@@ -15,7 +15,7 @@ use Rattle.theory.specs.Chase.{FirstReader, SecondReader}
 use Rattle.theory.specs.Union.{Accepted, SoundQuery}
 use Rattle.theory.specs.Laws.Options.{some-inj, none≢some}
 use Rattle.theory.specs.Laws.Writing.{written-accepted, more-than-iff}
-use Rattle.words.specs.Limits.{sheetWidth, mostMembers}
+use Rattle.words.specs.Limits.{sheetWidth, mostMembers, mostUnionBytes}
 use Rattle.sheets.specs.Format.{termCount}
 use Rattle.sheets.specs.Partners.{partners01}
 use Rattle.sheets.specs.Packing.{packUnion, unionSheet, All, RulesInRange, QueryInRange}
@@ -29,7 +29,7 @@ use Rattle.sheets.specs.Laws.OneList.{refused-iff, passed-iff}
 use Rattle.sheets.specs.Laws.PackingSheets.{whole-sheet}
 use Rattle.sheets.specs.Laws.StepsInRange.{RuleStands, AtomStands, rules-read-in, question-read-in, rules-read-stand, question-read-stands}
 use Rattle.sheets.specs.Laws.StepsInRange.{rules-unrefused, question-unrefused, sound-question}
-use Rattle.sheets.specs.Laws.WrittenUnion.{written-reads, written-passes6}
+use Rattle.sheets.specs.Laws.WrittenUnion.{written-in-range, packed-union-length, written-reads, written-passes6}
 use Rattle.promises.specs.TheSheets.{theRules, theQuestion, theUnion, theFacts, theRefusal, theConditions, SoundFacts}
 use Rattle.promises.specs.Checking.{sheetsOf, checkNumber, SoundAndAccepted}
 use Rattle.promises.specs.Drawing.{bytesNeeded, termsOf, Registered, Listed, Drawn}
@@ -86,6 +86,13 @@ module _ (rules question : List ℕ) (sound : SoundToWrite rules question) where
         (written-passes6 partners01 sheetWidth (theRules rules) (theQuestion question) rules-in rules-stand question-in question-stands
         question-is-sound whole-sheet few)
 
+    -- the longest has 33,282 bytes
+    pub packed-length : length packed ≤ mostUnionBytes sheetWidth
+    packed-length =
+        packed-union-length (theWritten rules question)
+        (written-in-range partners01 sheetWidth (theRules rules) (theQuestion question) rules-in rules-stand question-in question-stands
+        question-is-sound few)
+
     -- "The written union is one the desk accepts."
     pub packed-accepted : SoundAndAccepted rules question packed
     packed-accepted = (
@@ -97,6 +104,14 @@ module _ (rules question : List ℕ) (sound : SoundToWrite rules question) where
       subst (Accepted (theRules rules) (theQuestion question)) (sym packed-reads)
           (written-accepted (theRules rules) (theQuestion question) mostMembers few),
     )
+
+pub longest-union : (rules question : List ℕ) → SoundToWrite rules question → ¬ TooMany rules question
+    → unionBytes rules question ≤ mostUnionBytes sheetWidth
+longest-union rules question sound f =
+    elim (lt-or-le mostMembers (length (theWritten rules question))) [
+      | inl l ↦ absurd (f (too-many-iff rules question sound .0 (ltb-tells mostMembers (length (theWritten rules question)) .pass .1 l)))
+      | inr l ↦ packed-length rules question sound l
+    ]
 
 -- ---- the number
 
@@ -236,9 +251,9 @@ module _ (rules question : List ℕ) (room : ℕ) where
     sound = zero-iff .0 (along 0 .0 zero) .0
 
     -- the bytes written are the union's packing
-    taken : take (outcome .size) (outcome .sheet) ≡ packUnion sheetWidth (theWritten rules question)
+    pub written-bytes : take (outcome .size) (outcome .sheet) ≡ packUnion sheetWidth (theWritten rules question)
     unfolding unionSheet
-    taken =
+    written-bytes =
         ap (λ (o : WriteOutcome). take (o .size) (o .sheet)) is-written
         ∙ take-append-seam (packUnion sheetWidth (theWritten rules question)) (replicate (room - unionBytes rules question) 0)
 
@@ -250,13 +265,23 @@ module _ (rules question : List ℕ) (room : ℕ) where
         ∙ ap (λ (o : WriteOutcome). replicate (room - o .size) 0) (sym is-written)
 
     written-accepted-bytes : SoundAndAccepted rules question (take (outcome .size) (outcome .sheet))
-    written-accepted-bytes = subst (SoundAndAccepted rules question) (sym taken) (packed-accepted rules question sound few)
+    written-accepted-bytes = subst (SoundAndAccepted rules question) (sym written-bytes) (packed-accepted rules question sound few)
 
     written-read : theUnion (take (outcome .size) (outcome .sheet)) ≡ theWritten rules question
-    written-read = ap theUnion taken ∙ packed-reads rules question sound few
+    written-read = ap theUnion written-bytes ∙ packed-reads rules question sound few
 
     written-count : outcome .count ≡ length (theUnion (take (outcome .size) (outcome .sheet)))
     written-count = ap (λ (o : WriteOutcome). o .count) is-written ∙ ap length (sym written-read)
+
+  -- the union lies within the sheet
+  outcome-within : outcome .size ≤ length (outcome .sheet)
+  unfolding writeOutcome unionSheet
+  outcome-within = by-cases refusal
+    where
+      by-cases : (o : Option ℕ) → writeOutcomeBy room (theWritten rules question) o .size
+          ≤ length (writeOutcomeBy room (theWritten rules question) o .sheet)
+      by-cases (some n) = zero-le
+      by-cases none = omega (arith, length-append (packUnion sheetWidth (theWritten rules question)) (replicate (room - unionBytes rules question) 0))
 
   -- THE PLEDGE holds of the outcome, and of nothing else
   pub pledge : UnionWritten rules question room (outcome .number) (outcome .count) (outcome .size) (outcome .sheet)
@@ -333,6 +358,11 @@ module _ (rules question : List ℕ) (room number count size : ℕ) (sheet : Lis
 
   pub more-than-512 : SoundToWrite rules question → (number ≡ 15) ↔ TooMany rules question
   more-than-512 sound = (λ e. written .fifteen .0 e .1, λ m. written .fifteen .1 (sound, m))
+
+  -- the union lies within the sheet
+  pub size-within : size ≤ length sheet
+  size-within = subst (λ n. n ≤ length sheet) (sym (written .size-is)) (subst (λ (s : List ℕ). writeOutcome rules question room .size ≤ length s)
+      (sym (written .sheet-is)) (outcome-within rules question room))
 
   module _ (zero : number ≡ 0) where
     -- the union as the caller hands it on

@@ -2,29 +2,56 @@
 -- and reads as it.
 use mathlib.Core.Path.{_≡_, sym, ap, _∙_, subst}
 use mathlib.Core.Logic.{inl, inr}
-use Prim.Native.Nat.{ℕ, _≤_, _<_}
+use Prim.Native.Nat.{ℕ, _+_, _*_, _≤_, _<_}
 use native.Mathlib.Decide.{ℕ-discrete}
 use native.Mathlib.Omega.{arith}
-use mathlib.Core.List.{List, map, map-id}
+use mathlib.Core.List.{List, [], _∷_, map, map-id, flatMap, List·Memᴰ·tail}
 use lib.Dec.{T}
-use lib.ListN.{length}
+use lib.ListN.{length, length-append}
 use Rattle.theory.specs.Lists.{_∈_, At, Unrepeated}
 use Rattle.theory.specs.Syntax.{Rule, Query, Member, UCQ}
 use Rattle.theory.specs.Union.{SoundQuery, SoundUnion, noStep}
 use Rattle.theory.specs.Writing.{writtenUnion}
-use Rattle.theory.specs.Laws.Lists.{map-agree, at-mem, mem-at, at-lt, at-equal}
+use Rattle.theory.specs.Laws.Lists.{here, map-agree, at-mem, mem-at, at-lt, at-equal}
 use Rattle.theory.specs.Laws.Steps.{ruleStep-iff, mergeStep-iff}
 use Rattle.theory.specs.Laws.StepShape.{step-sound}
 use Rattle.theory.specs.Laws.Writing.{reached-keeps, written-kept, written-reached}
-use Rattle.words.specs.Limits.{mostMembers}
+use Rattle.words.specs.Limits.{sheetWidth, mostMembers, stepBytes, mostQuestionBytes, mostUnionBytes}
 use Rattle.sheets.specs.Format.{unionOf}
 use Rattle.sheets.specs.Partners.{queryAsRead, memberAsRead}
 use Rattle.sheets.specs.Reading.{unionAsRead}
 use Rattle.sheets.specs.Tests.{refuses4, refuses5, refuses6}
-use Rattle.sheets.specs.Packing.{packUnion, All, RulesInRange, QueryInRange, StepInRange, MemberInRange, UnionInRange, WholeBytes}
+use Rattle.sheets.specs.Packing.{packMember, packUnion, All, RulesInRange, QueryInRange, StepInRange, MemberInRange, UnionInRange, WholeBytes}
 use Rattle.sheets.specs.Laws.QuestionRefusals.{refuses4-iff, refuses5-iff}
-use Rattle.sheets.specs.Laws.PackingUnions.{packed-union-read, Passes, packed-union-passes}
+use Rattle.sheets.specs.Laws.PackingBytes.{length-number}
+use Rattle.sheets.specs.Laws.PackingSheets.{whole-sheet}
+use Rattle.sheets.specs.Laws.PackingQueries.{length-question}
+use Rattle.sheets.specs.Laws.PackingUnions.{length-member, packed-union-read, Passes, packed-union-passes}
 use Rattle.sheets.specs.Laws.StepsInRange.{AtomStands, RuleStands, step-in-range, step-as-read, query-as-read, member-as-read}
+
+-- ---- how long a union's sheet can be
+
+members-length : (ms : UCQ) → All (MemberInRange sheetWidth) ms → length (flatMap (packMember sheetWidth) ms)
+    ≤ (stepBytes + mostQuestionBytes sheetWidth) * length ms
+unfolding flatMap
+members-length [] h = omega arith
+members-length (m ∷ ms) h =
+    let q = h m here .1 in
+    let terms = q .few-answers in
+    let atoms = q .few-atoms in
+    omega (
+      arith,
+      length-append (packMember sheetWidth m) (flatMap (packMember sheetWidth) ms),
+      length-member sheetWidth whole-sheet m,
+      length-question sheetWidth whole-sheet (m .query),
+      members-length ms (λ n i. h n (List·Memᴰ·tail i)),
+    )
+
+pub packed-union-length : (union : UCQ) → UnionInRange sheetWidth union → length (packUnion sheetWidth union) ≤ mostUnionBytes sheetWidth
+unfolding packUnion
+packed-union-length union h =
+    let few = h .1 in
+    omega (arith, length-number 2 (length union) (flatMap (packMember sheetWidth) union), members-length union (h .2))
 
 module _ (partners : List ℕ) (w : ℕ) (rules : List Rule) (q : Query) (rules-in : RulesInRange rules)
     (rules-stand : All (RuleStands partners) rules) (question-in : QueryInRange w q) (question-stands : All (AtomStands partners) (q .atoms))
