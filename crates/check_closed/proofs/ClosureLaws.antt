@@ -1,21 +1,21 @@
 -- Refusal 11: the steps from a member, one by one.
 use mathlib.Core.Path.{_≡_, refl, sym, ap, ap₂, _∙_, subst}
+use mathlib.Core.Logic.{inl, inr}
 use Prim.Native.Nat.{ℕ, _+_, _-_, _≤_, _<_}
 use native.Mathlib.Omega.{arith}
 use mathlib.Core.Bool.{Bool, true, false, not, _||_, or-false}
-use mathlib.Core.Option.{Option, none, some}
-use mathlib.Core.List.{List, [], _∷_, map, flatMap}
-use lib.ListN.{length, getD, set}
+use mathlib.Core.Option.{Option, none}
+use mathlib.Core.List.{List, [], _∷_, flatMap}
+use lib.ListN.{length, getD}
 use lib.Dec.{T, eqb, eqb→eq}
 use borrow.Author.Needs.{needs}
 use borrow.Author.Tests.{le-ltb, eq-eqb, ne-eqb}
 use Rattle.theory.specs.Lists.{Unrepeated, At, any, toList, numbers}
-use Rattle.theory.specs.Syntax.{Rule, Query, UCQ, mapAtom, subst-term}
-use Rattle.theory.specs.Rewriting.{changeAtom, substitute, ruleStep, mergeStep, steps}
+use Rattle.theory.specs.Syntax.{Rule, Query, UCQ}
+use Rattle.theory.specs.Rewriting.{ruleStep, mergeStep, steps}
 use Rattle.theory.specs.Renaming.{alike}
 use Rattle.theory.specs.Union.{refuses11}
-use Rattle.theory.specs.Laws.Syntax.{keepOnce-unrepeated}
-use Rattle.theory.specs.Laws.Steps.{ruleStep-iff, mergeStep-iff}
+use Rattle.theory.specs.Laws.StepShape.{step-distinct}
 use Rattle.theory.specs.Laws.Lists.{any-append, any-map, any-flatMap, any-iff, numbers-iff}
 use Rattle.theory.specs.Laws.Scans.{someFrom, numberScans, skip, some-begins, some-later, some-found, NoneIn, none-yet, none-longer}
 use Rattle.theory.specs.Laws.Scans.{records-length}
@@ -32,19 +32,6 @@ use Rattle.check_steps.proofs.WrittenLaws.{is-found, is-none, rule-steps}
 use Rattle.check_closed.specs.Outside.{outside, leadsOutside, ruleOut, rulesOut, mergeOut, mergesOut}
 
 -- ---- what a step leads to
-
--- the result of a step has no atom twice
-rule-result : (rules : List Rule) (q : Query) (i k : ℕ) (r : Query) → ruleStep rules q i k ≡ some r → Unrepeated (r .atoms)
-unfolding changeAtom
-rule-result rules q i k r e =
-    let w = ruleStep-iff rules q i k r .0 e in
-    subst (λ p. Unrepeated (p .atoms)) (w .6) (keepOnce-unrepeated (set (q .atoms) i (w .2)))
-
-merge-result : (q : Query) (i j : ℕ) (r : Query) → mergeStep q i j ≡ some r → Unrepeated (r .atoms)
-unfolding substitute
-merge-result q i j r e =
-    let w = mergeStep-iff q i j r .0 e in
-    subst (λ p. Unrepeated (p .atoms)) (w .7) (keepOnce-unrepeated (map (mapAtom (subst-term (w .3))) (q .atoms)))
 
 pub if-found : (r : QueryFound) → (r .found ≡ true → Unrepeated (queryOf (r .query) .atoms)) → r .found ≡ true
     → Unrepeated (queryOf (r .query) .atoms)
@@ -72,8 +59,8 @@ pub rule-distinct : (r : QueryFound) (q : QueryWords) (i x : ℕ)
     → ((rs : List Rule) (l : ℕ) → At rs l (ruleIn x) → queryFound r ≡ ruleStep rs (queryOf q) i l) → r .found ≡ true
     → Unrepeated (queryOf (r .query) .atoms)
 rule-distinct r q i x f g =
-    rule-result (ruleIn x ∷ []) (queryOf q) i 0 (queryOf (r .query))
-    (is-found r (ruleStep (ruleIn x ∷ []) (queryOf q) i 0) (f (ruleIn x ∷ []) 0 refl) g)
+    step-distinct (ruleIn x ∷ []) (queryOf q) (queryOf (r .query))
+    (inl (i, 0, is-found r (ruleStep (ruleIn x ∷ []) (queryOf q) i 0) (f (ruleIn x ∷ []) 0 refl) g))
 
 module _ (rules : List ℕ) (count : ℕ) (r : QueryFound) (q : QueryWords) (i k : ℕ) (within : count ≤ length rules) (h : k < count)
     (f : (rs : List Rule) (l : ℕ) → At rs l (ruleIn (getD rules k 0)) → queryFound r ≡ ruleStep rs (queryOf q) i l) where
@@ -137,7 +124,7 @@ module _ (union : UCQ) (q : Query) where
 
 module _ (r : QueryFound) (q : QueryWords) (i j : ℕ) (e : queryFound r ≡ mergeStep (queryOf q) i j) where
   pub merge-distinct : r .found ≡ true → Unrepeated (queryOf (r .query) .atoms)
-  merge-distinct f = merge-result (queryOf q) i j (queryOf (r .query)) (is-found r (mergeStep (queryOf q) i j) e f)
+  merge-distinct f = step-distinct [] (queryOf q) (queryOf (r .query)) (inr (i, j, is-found r (mergeStep (queryOf q) i j) e f))
 
   pub merge-leads : (b : Bool) (union : UCQ) → b ≡ leadsOutside union (queryFound r) → b ≡ mergeOut union (queryOf q) i j
   merge-leads b union f = f ∙ ap (leadsOutside union) e

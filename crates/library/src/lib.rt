@@ -4,7 +4,7 @@ use answering::answer;
 use answering::check;
 use read_records::partners::default_partners;
 use read_shown::member_place;
-use writing::Written;
+use write_stage::Written;
 use writing::write;
 ghost use lib.ListN.{length};
 ghost use Rattle.promises.specs.Checking.{Checked};
@@ -38,8 +38,8 @@ pub extern "C" fn takwishan_answer(
 // `write`.
 #[no_mangle]
 pub extern "C" fn takwishan_write(rules: &[u8], question: &[u8], sheet: &mut [u8]) -> Written
-    ensures { λ r. ⌜ UnionWritten (now (rules .entry)) (now (question .entry)) (length (now (sheet .entry))) (r .number) (r .count) (r .length)
-        (now (sheet .exit)) ⌝ }
+    ensures { λ r. ⌜ UnionWritten (now (rules .entry)) (now (question .entry)) (length (now (sheet .entry)))
+        (r .number) (r .count) (r .length) (now (sheet .exit)) ⌝ }
 {
     write(rules, question, sheet)
 }

@@ -2,7 +2,7 @@
 -- to standard output; on a refusal nothing there, and "refused N" to standard error.
 use Prim.Native.Nat.{ℕ}
 use mathlib.Core.Bool.{cond}
-use mathlib.Core.List.{List, []}
+use mathlib.Core.List.{[], List}
 use lib.Dec.{eqb}
 use lib.ListN.{take}
 use Rattle.words.specs.Limits.{sheetWidth, mostUnionBytes}

@@ -4,7 +4,7 @@ use Prim.Native.Nat.{ℕ, zero, suc, _+_, _*_, _≤_, _<_}
 use native.Mathlib.Omega.{arith}
 use mathlib.Core.Bool.{Bool, true, false, not}
 use mathlib.Core.List.{List, map}
-use lib.ListN.{length, getD, take, drop, take-append-drop, length-map}
+use lib.ListN.{length, take, drop, take-append-drop, length-map}
 use lib.Seq.{paste, getD-take}
 use borrow.Author.Count.{below-more}
 use borrow.Author.Needs.{needs}

@@ -1,2 +1,3 @@
 pub mod MemberLaws
-pub mod OrderLaws
+pub mod LoopLaws
+pub mod TakeLaws

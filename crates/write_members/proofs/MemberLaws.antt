@@ -93,7 +93,8 @@ module _ (table keys : List ℕ) (n : ℕ) (f : Found table keys n) (q : QueryWo
         found = record {
           few = omega arith;
           room = (let l : length longer ≡ length table =
-              length-paste table (stride * n) row stride (let x = room-for-row table keys n f h in omega arith) (let x = r .full in omega arith)
+              length-paste table (stride * n) row stride (let x = room-for-row table keys n f h in omega arith)
+              (let x = r .full in omega arith)
               in let x = f .room in omega arith);
           key-room = (let l : length (set keys n v) ≡ length keys = length-set keys n v in let x = f .key-room in omega arith);
           rows = longer-rows table row n member r (f .rows) (room-for-row table keys n f h) (small .variables, distinct);
@@ -104,7 +105,8 @@ module _ (table keys : List ℕ) (n : ℕ) (f : Found table keys n) (q : QueryWo
 
 module _ (table keys : List ℕ) (n : ℕ) (r : QueryFound) (s : Step) where
   -- nothing
-  pub nothing-appended : Found table keys n → r .found ≡ false → Holds (appendedAll (unionIn table n) (stepped s (queryFound r))) table keys n
+  pub nothing-appended : Found table keys n → r .found ≡ false
+      → Holds (appendedAll (unionIn table n) (stepped s (queryFound r))) table keys n
   unfolding appendedAll stepped
   nothing-appended f e =
       holds-itself (appendedAll (unionIn table n) (stepped s (queryFound r))) table keys n f

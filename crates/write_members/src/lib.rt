@@ -74,8 +74,8 @@ fn append_by_rule(
 ) -> usize
     requires { ⌜ (count ≤ length (now rules)) × (count ≤ mostRules) × (k < count) × (parent < mostMembers) × Small q × (i < q .size)
         × Found (now table) (now keys) n × Tried (rulesIn (now rules) count) (queryOf q) i k (unionIn (now table) n) ⌝ }
-    ensures { λ m. ⌜ Holds (appendedAll (unionIn (now (table .entry)) n) (byRule (rulesIn (now (rules .entry)) count) parent (queryOf q) i k))
-        (now (table .exit)) (now (keys .exit)) m ⌝ }
+    ensures { λ m. ⌜ Holds (appendedAll (unionIn (now (table .entry)) n)
+        (byRule (rulesIn (now (rules .entry)) count) parent (queryOf q) i k)) (now (table .exit)) (now (keys .exit)) m ⌝ }
 {
     let rule = rules[k];
     let atoms = q.atoms;

@@ -1,5 +1,5 @@
-// The program that writes a union: reads rules and question from the folder that it is run in, and hands the union's bytes to standard output
-// (02, T-02). On a refusal nothing goes there, and `refused N` goes to standard error.
+// The program that writes a union (02, T-02): reads rules and question from the folder that it is run in, and hands the union's bytes to
+// standard output. On a refusal nothing goes there, and `refused N` goes to standard error.
 use libc::STDERR_FILENO;
 use libc::STDOUT_FILENO;
 use program_files::read_two_files;

@@ -54,7 +54,8 @@ question-over s h = go (refuses3 sheetWidth s) refl
         let (terms, one, atoms) = counts-in-range sheetWidth s 0 sound in
         absurd (omega arith)
 
-pub long-question : (s : List ℕ) → mostQuestionBytes sheetWidth < length s → firstRefusal (questionRefusals partners01 sheetWidth s) ≡ some 3
+pub long-question : (s : List ℕ) → mostQuestionBytes sheetWidth < length s
+    → firstRefusal (questionRefusals partners01 sheetWidth s) ≡ some 3
 unfolding firstRefusal questionRefusals
 long-question s h = rw (question-over s h)
 

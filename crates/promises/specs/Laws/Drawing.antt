@@ -1,11 +1,11 @@
 -- The number that drawing gives, and the answers that it draws.
-use mathlib.Core.Path.{_≡_, refl, sym, _∙_, subst}
+use mathlib.Core.Path.{_≡_, refl, sym, ap, _∙_}
 use mathlib.Core.Logic.{inl, inr, _↔_, Iff·trans}
-use Prim.Native.Nat.{ℕ, suc, _≤_, _<_}
+use Prim.Native.Nat.{ℕ, _≤_, _<_}
 use native.Mathlib.Omega.{arith}
 use mathlib.Core.Bool.{Bool, true, false}
 use mathlib.Core.Option.{Option, none, some, orElse}
-use mathlib.Core.List.{List, [], _∷_, _++_, flatMap, List·Memᴰ·tail}
+use mathlib.Core.List.{List, [], _∷_, _++_, flatMap}
 use lib.Dec.{T, ltb}
 use lib.ListN.{length}
 use Rattle.theory.specs.Lists.{_∈_, Unrepeated, pick, guard, all}
@@ -15,10 +15,10 @@ use Rattle.theory.specs.Chase.{SecondReader}
 use Rattle.theory.specs.Evaluation.{found, insertTuple, answersOf, Before}
 use Rattle.theory.specs.Laws.Agreement.{readers-agree}
 use Rattle.theory.specs.Laws.Options.{T-and, none≢some, some-inj}
-use Rattle.theory.specs.Laws.Lists.{here, flatMap-found, mem-at, at-equal, dropAt, mem-dropAt}
+use Rattle.theory.specs.Laws.Lists.{flatMap-found, unrepeated-at}
 use Rattle.theory.specs.Laws.Ascending.{inserted-mem}
 use Rattle.theory.specs.Laws.Matches.{found-length}
-use Rattle.theory.specs.Laws.Pigeonhole.{length-dropAt}
+use Rattle.theory.specs.Laws.Pigeonhole.{no-longer}
 use Rattle.theory.specs.Laws.Answers.{answers-iff, insertTuple-inserts}
 use Rattle.theory.specs.Laws.Bounded.{found-bounded}
 use Rattle.words.specs.Limits.{sheetWidth, objectBound}
@@ -172,18 +172,13 @@ module _ (rules question union facts : List ℕ) where
 -- ---- how many
 
 -- a list without repeats is no longer than one that has all its elements
-no-longer : {X : Type 0} (xs ys : List X) → Unrepeated xs → ((x : X) → x ∈ xs → x ∈ ys) → length xs ≤ length ys
-no-longer [] ys u h = omega arith
-no-longer (x ∷ xs) ys u h =
-    let (i, a) = mem-at (h x here) in
-    let l : length ys ≡ suc (length (dropAt ys i)) = length-dropAt ys i a in
-    let rest : length xs ≤ length (dropAt ys i) = no-longer xs (dropAt ys i) (u .1) (λ y m. (
-    let (j, b) = mem-at (h y (List·Memᴰ·tail m)) in
-    mem-dropAt ys i j b (λ e. u .0 (subst (λ z. z ∈ xs) (at-equal ys e b a) m)))) in
-    omega arith
+within : {X : Type 0} (xs ys : List X) → Unrepeated xs → ((x : X) → x ∈ xs → x ∈ ys) → length xs ≤ length ys
+within xs ys u h =
+    no-longer (λ x y. x ≡ y) xs ys (λ x m. (x, h x m, refl))
+    (λ i j x z y l a b d e. (let same = unrepeated-at xs u i j (a ∙ ap some (d ∙ sym e)) b in omega arith))
 
 pub same-count : {X : Type 0} (xs ys : List X) → Unrepeated xs → Unrepeated ys → ((x : X) → (x ∈ xs) ↔ (x ∈ ys)) → length xs ≡ length ys
 same-count xs ys u v h =
-    let a : length xs ≤ length ys = no-longer xs ys u (λ x. h x .0) in
-    let b : length ys ≤ length xs = no-longer ys xs v (λ x. h x .1) in
+    let a : length xs ≤ length ys = within xs ys u (λ x. h x .0) in
+    let b : length ys ≤ length xs = within ys xs v (λ x. h x .1) in
     omega arith

@@ -243,7 +243,8 @@ module _ (rules question : List ℕ) (room : ℕ) where
     few =
         let w = zero-iff .0 (along 0 .0 zero) in
         elim (lt-or-le mostMembers (length (theWritten rules question))) [
-          | inl l ↦ absurd (w .1 (too-many-iff rules question (w .0) .0 (ltb-tells mostMembers (length (theWritten rules question)) .pass .1 l)))
+          | inl l ↦ absurd (w .1 (too-many-iff rules question (w .0) .0
+              (ltb-tells mostMembers (length (theWritten rules question)) .pass .1 l)))
           | inr l ↦ l
         ]
 
@@ -281,7 +282,9 @@ module _ (rules question : List ℕ) (room : ℕ) where
       by-cases : (o : Option ℕ) → writeOutcomeBy room (theWritten rules question) o .size
           ≤ length (writeOutcomeBy room (theWritten rules question) o .sheet)
       by-cases (some n) = zero-le
-      by-cases none = omega (arith, length-append (packUnion sheetWidth (theWritten rules question)) (replicate (room - unionBytes rules question) 0))
+      by-cases none =
+          let packed : List ℕ = packUnion sheetWidth (theWritten rules question) in
+          omega (arith, length-append packed (replicate (room - unionBytes rules question) 0))
 
   -- THE PLEDGE holds of the outcome, and of nothing else
   pub pledge : UnionWritten rules question room (outcome .number) (outcome .count) (outcome .size) (outcome .sheet)
@@ -313,14 +316,16 @@ module _ (rules question : List ℕ) (room : ℕ) where
       ↔ First (theConditions writing (twoSheets rules question) ++ ((15, TooMany rules question) ∷ [])) n
   refused-then =
       with-last (theConditions writing (twoSheets rules question)) (theRefusal writing (twoSheets rules question))
-      (refused-iff partners01 sheetWidth (twoSheets rules question) writing) (passed-iff partners01 sheetWidth (twoSheets rules question) writing)
+      (refused-iff partners01 sheetWidth (twoSheets rules question) writing)
+      (passed-iff partners01 sheetWidth (twoSheets rules question) writing)
       15 tooMany (TooMany rules question) (too-many-iff rules question)
 
   passed-then : (orElse (theRefusal writing (twoSheets rules question)) (guard tooMany 15) ≡ none)
       ↔ NoneHolds (theConditions writing (twoSheets rules question) ++ ((15, TooMany rules question) ∷ []))
   passed-then =
       none-with-last (theConditions writing (twoSheets rules question)) (theRefusal writing (twoSheets rules question))
-      (refused-iff partners01 sheetWidth (twoSheets rules question) writing) (passed-iff partners01 sheetWidth (twoSheets rules question) writing)
+      (refused-iff partners01 sheetWidth (twoSheets rules question) writing)
+      (passed-iff partners01 sheetWidth (twoSheets rules question) writing)
       15 tooMany (TooMany rules question) (too-many-iff rules question)
 
   pub number-means : (n : ℕ) → 0 < n → (outcome .number ≡ n) ↔ First (writeConditions rules question room) n
@@ -361,8 +366,7 @@ module _ (rules question : List ℕ) (room number count size : ℕ) (sheet : Lis
 
   -- the union lies within the sheet
   pub size-within : size ≤ length sheet
-  size-within = subst (λ n. n ≤ length sheet) (sym (written .size-is)) (subst (λ (s : List ℕ). writeOutcome rules question room .size ≤ length s)
-      (sym (written .sheet-is)) (outcome-within rules question room))
+  size-within = rw (written .size-is, written .sheet-is) (outcome-within rules question room)
 
   module _ (zero : number ≡ 0) where
     -- the union as the caller hands it on

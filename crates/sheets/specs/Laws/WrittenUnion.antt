@@ -8,20 +8,20 @@ use native.Mathlib.Omega.{arith}
 use mathlib.Core.List.{List, [], _∷_, map, map-id, flatMap, List·Memᴰ·tail}
 use lib.Dec.{T}
 use lib.ListN.{length, length-append}
-use Rattle.theory.specs.Lists.{_∈_, At, Unrepeated}
+use Rattle.theory.specs.Lists.{_∈_, At}
 use Rattle.theory.specs.Syntax.{Rule, Query, Member, UCQ}
-use Rattle.theory.specs.Union.{SoundQuery, SoundUnion, noStep}
+use Rattle.theory.specs.Union.{SoundQuery, SoundUnion}
 use Rattle.theory.specs.Writing.{writtenUnion}
 use Rattle.theory.specs.Laws.Lists.{here, map-agree, at-mem, mem-at, at-lt, at-equal}
 use Rattle.theory.specs.Laws.Steps.{ruleStep-iff, mergeStep-iff}
 use Rattle.theory.specs.Laws.StepShape.{step-sound}
 use Rattle.theory.specs.Laws.Writing.{reached-keeps, written-kept, written-reached}
 use Rattle.words.specs.Limits.{sheetWidth, mostMembers, stepBytes, mostQuestionBytes, mostUnionBytes}
-use Rattle.sheets.specs.Format.{unionOf}
 use Rattle.sheets.specs.Partners.{queryAsRead, memberAsRead}
 use Rattle.sheets.specs.Reading.{unionAsRead}
-use Rattle.sheets.specs.Tests.{refuses4, refuses5, refuses6}
-use Rattle.sheets.specs.Packing.{packMember, packUnion, All, RulesInRange, QueryInRange, StepInRange, MemberInRange, UnionInRange, WholeBytes}
+use Rattle.sheets.specs.Tests.{refuses6}
+use Rattle.sheets.specs.Packing.{packMember, packUnion, All, RulesInRange, QueryInRange, StepInRange, MemberInRange}
+use Rattle.sheets.specs.Packing.{UnionInRange, WholeBytes}
 use Rattle.sheets.specs.Laws.QuestionRefusals.{refuses4-iff, refuses5-iff}
 use Rattle.sheets.specs.Laws.PackingBytes.{length-number}
 use Rattle.sheets.specs.Laws.PackingSheets.{whole-sheet}
@@ -54,7 +54,8 @@ packed-union-length union h =
     omega (arith, length-number 2 (length union) (flatMap (packMember sheetWidth) union), members-length union (h .2))
 
 module _ (partners : List ℕ) (w : ℕ) (rules : List Rule) (q : Query) (rules-in : RulesInRange rules)
-    (rules-stand : All (RuleStands partners) rules) (question-in : QueryInRange w q) (question-stands : All (AtomStands partners) (q .atoms))
+    (rules-stand : All (RuleStands partners) rules) (question-in : QueryInRange w q)
+    (question-stands : All (AtomStands partners) (q .atoms))
     (question-sound : SoundQuery (length (q .answers)) q) where
   abbrev union : UCQ
   union = writtenUnion mostMembers rules q

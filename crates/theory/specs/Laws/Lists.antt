@@ -365,6 +365,19 @@ module _ {X : Type 0} where
     ],
   )
 
+  -- a list with more after it
+  pub at-append : (xs ys : List X) (i : ℕ) {x : X} → At xs i x → At (xs ++ ys) i x
+  at-append [] ys i e = absurd (none≢some e)
+  at-append (x ∷ xs) ys zero e = e
+  at-append (x ∷ xs) ys (suc i) e = at-append xs ys i e
+
+  -- what stands in a list with one element more stood there before, or is that element
+  pub at-snoc : (xs : List X) (y : X) (i : ℕ) {x : X} → At (xs ++ (y ∷ [])) i x → At xs i x ⊎ ((i ≡ length xs) × (x ≡ y))
+  at-snoc [] y zero e = inr (refl, sym (some-inj e))
+  at-snoc [] y (suc i) e = absurd (none≢some e)
+  at-snoc (x ∷ xs) y zero e = inl e
+  at-snoc (x ∷ xs) y (suc i) e = elim (at-snoc xs y i e) [ inl f ↦ inl f | inr w ↦ inr (ap suc (w .0), w .1) ]
+
   -- the list without the element at index i
   abbrev pub dropAt : List X → ℕ → List X
   dropAt [] i = []
@@ -390,6 +403,12 @@ module _ {X : Type 0} where
   dropAt-set (x ∷ xs) (suc i) b = ap (λ r. x ∷ r) (dropAt-set xs i b)
 
 -- no element is more than the largest
+-- the element at an index of a mapped list comes from the one at that index
+pub map-at : {X Y : Type 0} (f : X → Y) (xs : List X) (i : ℕ) (y : Y) → At (map f xs) i y → (x : X) × At xs i x × (f x ≡ y)
+map-at f [] i y e = absurd (none≢some e)
+map-at f (x ∷ xs) zero y e = (x, refl, some-inj e)
+map-at f (x ∷ xs) (suc i) y e = map-at f xs i y e
+
 pub getD-max : (xs : List ℕ) (j : ℕ) → getD xs j 0 ≤ foldr max 0 xs
 getD-max [] j = le-refl 0
 getD-max (x ∷ xs) zero = omega arith

@@ -1,14 +1,15 @@
--- How high the fresh variable can be: a query with few terms has a low number that stands nowhere in it.
-use mathlib.Core.Path.{_≡_, refl, ap}
+-- Pigeons and holes: a list that goes one-to-one into another is no longer; and how high the fresh variable can be, since a query with few
+-- terms has a low number that stands nowhere in it.
+use mathlib.Core.Path.{_≡_, refl, ap, subst}
 use Prim.Native.Nat.{ℕ, zero, suc, _+_, _*_, _≤_, _<_, zero-le}
 use native.Mathlib.Omega.{arith}
-use mathlib.Core.List.{List, [], _∷_}
+use mathlib.Core.List.{List, [], _∷_, List·Memᴰ·tail}
 use lib.ListN.{length, length-append}
 use Rattle.theory.specs.Lists.{_∈_, At}
 use Rattle.theory.specs.Syntax.{Term, var, Atom, concept, role, Query, places, terms}
 use Rattle.theory.specs.Rewriting.{fresh}
 use Rattle.theory.specs.Laws.Options.{none≢some}
-use Rattle.theory.specs.Laws.Lists.{mem-at, at-equal, dropAt, mem-dropAt}
+use Rattle.theory.specs.Laws.Lists.{here, mem-at, at-equal, dropAt, mem-dropAt}
 use Rattle.theory.specs.Laws.Fresh.{fresh-lowest}
 
 -- ---- on lists
@@ -18,6 +19,32 @@ pub length-dropAt : {X : Type 0} (xs : List X) (i : ℕ) {x : X} → At xs i x �
 length-dropAt [] i e = absurd (none≢some e)
 length-dropAt (x ∷ xs) zero e = refl
 length-dropAt (x ∷ xs) (suc i) e = ap suc (length-dropAt xs i e)
+
+-- Each element of the first list has one in the second that it goes with, and no two go with the same: the first is no longer.
+pub no-longer : {X Y : Type 0} (Goes : X → Y → Type 0) (xs : List X) (ys : List Y)
+    → ((x : X) → x ∈ xs → (y : Y) × (y ∈ ys) × Goes x y)
+    → ((i j : ℕ) (x z : X) (y : Y) → i < j → At xs i x → At xs j z → Goes x y → Goes z y → ⊥)
+    → length xs ≤ length ys
+no-longer Goes [] ys each apart = zero-le
+no-longer {X} {Y} Goes (x ∷ xs) ys each apart =
+    let first = each x here in
+    let place = mem-at (first .1) in
+    let fewer = no-longer Goes xs (dropAt ys (place .0)) (others first place)
+    (λ i j z z′ y l e f. apart (suc i) (suc j) z z′ y (omega arith) e f) in
+    omega (arith, fewer, length-dropAt ys (place .0) (place .1))
+  where
+    others : (first : (y : Y) × (y ∈ ys) × Goes x y) (place : (i : ℕ) × At ys i (first .0)) (z : X) → z ∈ xs
+        → (y : Y) × (y ∈ dropAt ys (place .0)) × Goes z y
+    others first place z n =
+        let second = each z (List·Memᴰ·tail n) in
+        let there = mem-at (second .1) in
+        let later = mem-at n in (
+          second .0,
+          mem-dropAt ys (place .0) (there .0) (there .1)
+              (λ d. apart zero (suc (later .0)) x z (first .0) (omega arith) refl (later .1) (first .2)
+              (subst (Goes z) (at-equal ys d (there .1) (place .1)) (second .2))),
+          second .2,
+        )
 
 -- ---- variables among few terms
 

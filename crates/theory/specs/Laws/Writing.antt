@@ -1,59 +1,25 @@
 -- 02, T-02: what the written union means. "The written union is one the desk accepts, and 15 comes only where its condition truly holds."
 -- And it is the only one there is: any two accepted unions for the same rules and question have, up to names, the same members.
-use mathlib.Core.Path.{_≡_, refl, sym, ap, _∙_, subst}
-use mathlib.Core.Logic.{_⊎_, inl, inr, _↔_}
-use Prim.Native.Nat.{ℕ, zero, suc, _≤_, _<_, zero-le}
+use mathlib.Core.Path.{_≡_, refl, sym, ap, subst}
+use mathlib.Core.Logic.{inl, inr, _↔_}
+use Prim.Native.Nat.{ℕ, zero, suc, _≤_, _<_}
 use native.Mathlib.Nat.{le-antisymm}
 use native.Mathlib.Decide.{ℕ-discrete, decLt}
 use native.Mathlib.Omega.{arith}
-use mathlib.Core.Option.{some}
-use mathlib.Core.List.{List, [], _∷_, map, List·Memᴰ·tail, Memᴰ·of-map}
-use lib.ListN.{length, getElem?, length-map}
+use mathlib.Core.List.{List, map, Memᴰ·of-map}
+use lib.ListN.{length, length-map}
 use Rattle.theory.specs.Lists.{_∈_, At, Unrepeated}
 use Rattle.theory.specs.Syntax.{Rule, Query, Member, UCQ}
 use Rattle.theory.specs.Rewriting.{StepTo}
 use Rattle.theory.specs.Renaming.{Alike}
 use Rattle.theory.specs.Union.{Accepted, Yields, noStep}
-use Rattle.theory.specs.Writing.{grown, writtenUnion, ReachedIn, Reached, Unlike, MoreThan}
-use Rattle.theory.specs.Laws.Options.{none≢some, some-inj}
-use Rattle.theory.specs.Laws.Lists.{here, at-mem, mem-at, at-lt, at-equal, dropAt, mem-dropAt, dropAt-mem}
-use Rattle.theory.specs.Laws.Pigeonhole.{length-dropAt}
+use Rattle.theory.specs.Writing.{writtenUnion, ReachedIn, Reached, MoreThan}
+use Rattle.theory.specs.Laws.Lists.{at-mem, mem-at, at-lt, at-equal, map-at}
+use Rattle.theory.specs.Laws.Pigeonhole.{no-longer}
 use Rattle.theory.specs.Laws.Equivalence.{alike-refl, alike-sym, alike-trans}
 use Rattle.theory.specs.Laws.Respect.{steps-respect}
 use Rattle.theory.specs.Laws.StepShape.{step-distinct}
 use Rattle.theory.specs.Laws.WritingGrows.{AlikeIn, Kept, grown-kept, grown-taken}
-
--- ---- pigeons and holes
-
--- Each element of the first list has one in the second that it goes with, and no two go with the same: the first is no longer.
-pub no-longer : {X Y : Type 0} (Goes : X → Y → Type 0) (xs : List X) (ys : List Y)
-    → ((x : X) → x ∈ xs → (y : Y) × (y ∈ ys) × Goes x y)
-    → ((i j : ℕ) (x z : X) (y : Y) → i < j → At xs i x → At xs j z → Goes x y → Goes z y → ⊥)
-    → length xs ≤ length ys
-no-longer Goes [] ys each apart = zero-le
-no-longer {X} {Y} Goes (x ∷ xs) ys each apart =
-    let first = each x here in
-    let place = mem-at (first .1) in
-    let fewer = no-longer Goes xs (dropAt ys (place .0)) (others first place) (λ i j z z′ y l e f. apart (suc i) (suc j) z z′ y (omega arith) e f) in
-    omega (arith, fewer, length-dropAt ys (place .0) (place .1))
-  where
-    others : (first : (y : Y) × (y ∈ ys) × Goes x y) (place : (i : ℕ) × At ys i (first .0)) (z : X) → z ∈ xs
-        → (y : Y) × (y ∈ dropAt ys (place .0)) × Goes z y
-    others first place z n =
-        let second = each z (List·Memᴰ·tail n) in
-        let there = mem-at (second .1) in
-        let later = mem-at n in (
-          second .0,
-          mem-dropAt ys (place .0) (there .0) (there .1) (λ d. apart zero (suc (later .0)) x z (first .0) (omega arith) refl (later .1) (first .2)
-              (subst (Goes z) (at-equal ys d (there .1) (place .1)) (second .2))),
-          second .2,
-        )
-
--- the element at an index of a mapped list comes from the one at that index
-map-at : {X Y : Type 0} (f : X → Y) (xs : List X) (i : ℕ) (y : Y) → At (map f xs) i y → (x : X) × At xs i x × (f x ≡ y)
-map-at f [] i y e = absurd (none≢some e)
-map-at f (x ∷ xs) zero y e = (x, refl, some-inj e)
-map-at f (x ∷ xs) (suc i) y e = map-at f xs i y e
 
 -- ---- what is reached
 
@@ -71,7 +37,8 @@ module _ (rules : List Rule) (q : Query) where
   reached-further p r w s = (suc (w .0), (p, w .1, s))
 
   yields-step : (u : UCQ) (k : ℕ) (m : Member) (r : Query) (y : Yields rules u k (m .step) r) → StepTo rules (y .1 .query) r
-  yields-step u k m r y = elim (y .3) [ inl w ↦ inl (m .step .atom, m .step .other, w .1) | inr w ↦ inr (m .step .atom, m .step .other, w .1) ]
+  yields-step u k m r y =
+      elim (y .3) [ inl w ↦ inl (m .step .atom, m .step .other, w .1) | inr w ↦ inr (m .step .atom, m .step .other, w .1) ]
 
   -- ---- the members of an accepted union are, up to names, all that is reached and nothing else
 
@@ -194,7 +161,8 @@ module _ (rules : List Rule) (q : Query) where
     pub not-more-than : Unrepeated (q .atoms) → length union ≤ most → ¬ MoreThan most rules q
     not-more-than distinct few (qs, l, unlike, reached) =
         let ok = written-accepted few in
-        let du : (m : Member) → m ∈ union → Unrepeated (m .query .atoms) = λ m n. reached-distinct distinct (m .query) (written-reached m n) in
+        let du : (m : Member) → m ∈ union → Unrepeated (m .query .atoms) =
+        λ m n. reached-distinct distinct (m .query) (written-reached m n) in
         let h : length qs ≤ length union =
         no-longer (λ (r : Query) (m : Member). Alike r (m .query)) qs union
         (λ r n. reached-member union ok du (reached r n .0) r (reached r n .1))

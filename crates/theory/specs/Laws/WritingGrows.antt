@@ -1,5 +1,5 @@
--- 02, T-02: how the written union grows. Members are only appended, each with its own step, none alike to an earlier one; and what the steps
--- of a taken member lead to is alike to a member.
+-- 02, T-02: how the written union grows. Members are only appended, each with its own step, none alike to an earlier one; and what the
+-- steps of a taken member lead to is alike to a member.
 use mathlib.Core.Path.{_≡_, refl, sym, ap, _∙_, subst}
 use mathlib.Core.Logic.{_⊎_, inl, inr}
 use Prim.Native.Nat.{ℕ, zero, suc, _+_, _≤_, _<_}
@@ -8,38 +8,22 @@ use native.Mathlib.Decide.{decLt}
 use native.Mathlib.Omega.{arith}
 use mathlib.Core.Option.{Option, none, some}
 use mathlib.Core.List.{List, [], _∷_, _++_, append-assoc, append-nil, flatMap, List·Memᴰ·head, List·Memᴰ·tail, List·Memᴰ·not-nil}
-use mathlib.Core.List.{List·Memᴰ·append-cases, Memᴰ·append-left, Memᴰ·append-right, List·Memᴰ·cases-cons}
+use mathlib.Core.List.{List·Memᴰ·append-cases, Memᴰ·append-left, Memᴰ·append-right}
 use lib.ListN.{length, getElem?, length-append}
-use Rattle.theory.specs.Lists.{_∈_, At, pick, any, numbers}
+use Rattle.theory.specs.Lists.{_∈_, At, any, numbers}
 use Rattle.theory.specs.Syntax.{Rule, Query, Step, Member, UCQ}
 use Rattle.theory.specs.Rewriting.{ruleStep, mergeStep, StepTo}
 use Rattle.theory.specs.Renaming.{Alike, alike}
 use Rattle.theory.specs.Union.{Yields, noStep}
 use Rattle.theory.specs.Writing.{stepped, byRule, byMerge, stepsFrom, appended, appendedAll, withStepsOf, grown}
 use Rattle.theory.specs.Laws.Options.{either, pick-true, pick-false, some-inj, none≢some, some-or-none}
-use Rattle.theory.specs.Laws.Lists.{here, flatMap-found, flatMap-of, numbers-iff, at-mem, mem-at, at-lt, at-or-past, at-equal, at-unique}
+use Rattle.theory.specs.Laws.Lists.{here, flatMap-found, flatMap-of, numbers-iff, at-mem, mem-at, at-lt, at-or-past, at-unique}
+use Rattle.theory.specs.Laws.Lists.{at-append, at-snoc}
 use Rattle.theory.specs.Laws.Steps.{ruleStep-iff, mergeStep-iff}
 use Rattle.theory.specs.Laws.Equivalence.{alike-refl, alike-sym}
 use Rattle.theory.specs.Laws.UnionTests.{someAlike-iff}
 
--- ---- lists that begin with a list
-
-module _ {X : Type 0} where
-  pub at-append : (xs ys : List X) (i : ℕ) {x : X} → At xs i x → At (xs ++ ys) i x
-  at-append [] ys i e = absurd (none≢some e)
-  at-append (x ∷ xs) ys zero e = e
-  at-append (x ∷ xs) ys (suc i) e = at-append xs ys i e
-
-  -- what stands in a list with one element more stood there before, or is that element
-  pub at-snoc : (xs : List X) (y : X) (i : ℕ) {x : X} → At (xs ++ (y ∷ [])) i x → At xs i x ⊎ ((i ≡ length xs) × (x ≡ y))
-  at-snoc [] y zero e = inr (refl, sym (some-inj e))
-  at-snoc [] y (suc i) e = absurd (none≢some e)
-  at-snoc (x ∷ xs) y zero e = inl e
-  at-snoc (x ∷ xs) y (suc i) e = elim (at-snoc xs y i e) [ inl f ↦ inl f | inr w ↦ inr (ap suc (w .0), w .1) ]
-
-  pub at-last : (xs : List X) (y : X) → At (xs ++ (y ∷ [])) (length xs) y
-  at-last [] y = refl
-  at-last (x ∷ xs) y = at-last xs y
+-- ---- unions that begin with a union
 
 -- the second union is the first with members after it
 abbrev pub Extends : UCQ → UCQ → Type 0

@@ -1,5 +1,5 @@
 -- A row put into a table: it is there, the rows before it are as they were, and the table has one member more.
-use mathlib.Core.Path.{_≡_, refl, sym, ap, ap₂, _∙_, subst}
+use mathlib.Core.Path.{_≡_, sym, ap, ap₂, _∙_, subst}
 use Prim.Native.Nat.{ℕ, zero, suc, _+_, _*_, _≤_, _<_}
 use native.Mathlib.Nat.{zero-add}
 use native.Mathlib.Numerals.{add-one}
@@ -14,8 +14,8 @@ use Rattle.theory.specs.Laws.Lists.{map-agree, numbers-iff}
 use Rattle.theory.specs.Laws.Scans.{listed}
 use Rattle.words.specs.Records.{stepOf}
 use Rattle.words.specs.Words.{wordTerm, wordAtom, memberOf, unionIn, stride}
-use Rattle.words.specs.Limits.{wordTermBound, mostTerms, mostAtoms}
-use Rattle.words.specs.Rows.{Row, Rows, rowAt, memberIn, NarrowRow, RowOf}
+use Rattle.words.specs.Limits.{wordTermBound}
+use Rattle.words.specs.Rows.{Row, Rows, rowAt, memberIn, RowOf}
 
 -- sixteen words, in a list and with more after it
 words-kept : (a : ℕ) (x y : List ℕ) → a + stride ≤ length x → take stride (drop a (x ++ y)) ≡ take stride (drop a x)

@@ -5,7 +5,7 @@ use lib.ListN.{length}
 use Rattle.theory.specs.Lists.{numbers}
 use Rattle.theory.specs.Writing.{byMerge, appendedAll}
 use Rattle.words.specs.Words.{queryOf, unionIn}
-use Rattle.write_members.proofs.OrderLaws.{PairsLeft, pairLoop}
+use Rattle.write_members.proofs.LoopLaws.{PairsLeft, pairLoop}
 use Rattle.write_members.proofs.append_by_merges.Statement.{statement}
 use Rattle.write_members.proofs.append_by_merges.Tie as tie
 
@@ -22,4 +22,6 @@ abbrev μ-loop : tie.MeasureT-loop
 pub append-by-merges-spec : {M : Type 1} → statement M
 append-by-merges-spec =
     tie.close
-    (tie.spec Inv-loop μ-loop (λ c. search pairLoop) (λ c κs. search pairLoop) (λ c. search pairLoop) (λ c. search pairLoop) (λ c. search pairLoop) (λ c. search pairLoop) (λ c. search pairLoop) (λ c. search pairLoop) (λ c. search pairLoop) (λ c. search pairLoop) (λ c. search pairLoop))
+    (tie.spec Inv-loop μ-loop (λ c. search pairLoop) (λ c κs. search pairLoop) (λ c. search pairLoop) (λ c. search pairLoop)
+    (λ c. search pairLoop) (λ c. search pairLoop) (λ c. search pairLoop) (λ c. search pairLoop) (λ c. search pairLoop)
+    (λ c. search pairLoop) (λ c. search pairLoop))

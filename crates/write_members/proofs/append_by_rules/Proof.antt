@@ -5,7 +5,7 @@ use lib.ListN.{length}
 use Rattle.theory.specs.Lists.{numbers}
 use Rattle.theory.specs.Writing.{byRule, appendedAll}
 use Rattle.words.specs.Words.{queryOf, rulesIn, unionIn}
-use Rattle.write_members.proofs.OrderLaws.{RulesLeft, ruleLoop}
+use Rattle.write_members.proofs.LoopLaws.{RulesLeft, ruleLoop}
 use Rattle.write_members.proofs.append_by_rules.Statement.{statement}
 use Rattle.write_members.proofs.append_by_rules.Tie as tie
 
@@ -21,4 +21,6 @@ abbrev μ-loop : tie.MeasureT-loop
 pub append-by-rules-spec : {M : Type 1} → statement M
 append-by-rules-spec =
     tie.close
-    (tie.spec Inv-loop μ-loop (λ c. search ruleLoop) (λ c κs. search ruleLoop) (λ c. search ruleLoop) (λ c. search ruleLoop) (λ c. search ruleLoop) (λ c. search ruleLoop) (λ c. search ruleLoop) (λ c. search ruleLoop) (λ c. search ruleLoop) (λ c. search ruleLoop) (λ c. search ruleLoop))
+    (tie.spec Inv-loop μ-loop (λ c. search ruleLoop) (λ c κs. search ruleLoop) (λ c. search ruleLoop) (λ c. search ruleLoop)
+    (λ c. search ruleLoop) (λ c. search ruleLoop) (λ c. search ruleLoop) (λ c. search ruleLoop) (λ c. search ruleLoop)
+    (λ c. search ruleLoop) (λ c. search ruleLoop))

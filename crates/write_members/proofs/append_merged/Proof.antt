@@ -5,7 +5,7 @@ use lib.ListN.{length}
 use Rattle.theory.specs.Lists.{numbers}
 use Rattle.theory.specs.Writing.{byMerge, appendedAll}
 use Rattle.words.specs.Words.{queryOf, unionIn}
-use Rattle.write_members.proofs.OrderLaws.{LaterLeft, laterLoop}
+use Rattle.write_members.proofs.LoopLaws.{LaterLeft, laterLoop}
 use Rattle.write_members.proofs.append_merged.Statement.{statement}
 use Rattle.write_members.proofs.append_merged.Tie as tie
 
@@ -21,4 +21,6 @@ abbrev μ-loop : tie.MeasureT-loop
 pub append-merged-spec : {M : Type 1} → statement M
 append-merged-spec =
     tie.close
-    (tie.spec Inv-loop μ-loop (λ c. search laterLoop) (λ c. search laterLoop) (λ c κs. search laterLoop) (λ c κs. search laterLoop) (λ c κs. search laterLoop) (λ c. search laterLoop) (λ c. search laterLoop) (λ c. search laterLoop) (λ c. search laterLoop) (λ c. search laterLoop) (λ c. search laterLoop) (λ c. search laterLoop) (λ c. search laterLoop) (λ c. search laterLoop))
+    (tie.spec Inv-loop μ-loop (λ c. search laterLoop) (λ c. search laterLoop) (λ c κs. search laterLoop) (λ c κs. search laterLoop)
+    (λ c κs. search laterLoop) (λ c. search laterLoop) (λ c. search laterLoop) (λ c. search laterLoop) (λ c. search laterLoop)
+    (λ c. search laterLoop) (λ c. search laterLoop) (λ c. search laterLoop) (λ c. search laterLoop) (λ c. search laterLoop))

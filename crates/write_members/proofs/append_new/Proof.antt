@@ -5,4 +5,5 @@ use Rattle.write_members.proofs.append_new.Tie as tie
 pub append-new-spec : {M : Type 1} → statement M
 append-new-spec =
     tie.close
-    (tie.spec (λ c. search laws) (λ c κs. search laws) (λ c κs. search laws) (λ c κs. search laws) (λ c. search laws) (λ c. search laws) (λ c. search laws) (λ c. search laws) (λ c. search laws) (λ c. search laws) (λ c. search laws) (λ c. search laws))
+    (tie.spec (λ c. search laws) (λ c κs. search laws) (λ c κs. search laws) (λ c κs. search laws) (λ c. search laws) (λ c. search laws)
+    (λ c. search laws) (λ c. search laws) (λ c. search laws) (λ c. search laws) (λ c. search laws) (λ c. search laws))

@@ -4,7 +4,7 @@ use lib.ListN.{length}
 use Rattle.words.specs.Limits.{mostMembers}
 use Rattle.words.specs.Words.{rulesIn}
 use Rattle.words.specs.Rows.{memberIn}
-use Rattle.write_members.proofs.OrderLaws.{Taken, memberLoop}
+use Rattle.write_members.proofs.TakeLaws.{Taken, memberLoop}
 use Rattle.write_members.proofs.take_members.Statement.{statement}
 use Rattle.write_members.proofs.take_members.Tie as tie
 
@@ -19,4 +19,6 @@ abbrev μ-loop : tie.MeasureT-loop
 pub take-members-spec : {M : Type 1} → statement M
 take-members-spec =
     tie.close
-    (tie.spec Inv-loop μ-loop (λ c. search memberLoop) (λ c κs. search memberLoop) (λ c. search memberLoop) (λ c. search memberLoop) (λ c. search memberLoop) (λ c. search memberLoop) (λ c. search memberLoop) (λ c. search memberLoop) (λ c. search memberLoop) (λ c. search memberLoop) (λ c. search memberLoop))
+    (tie.spec Inv-loop μ-loop (λ c. search memberLoop) (λ c κs. search memberLoop) (λ c. search memberLoop) (λ c. search memberLoop)
+    (λ c. search memberLoop) (λ c. search memberLoop) (λ c. search memberLoop) (λ c. search memberLoop) (λ c. search memberLoop)
+    (λ c. search memberLoop) (λ c. search memberLoop))

@@ -10,7 +10,7 @@ use Rattle.theory.specs.Syntax.{UCQ}
 use Rattle.words.specs.Limits.{sheetWidth, mostMembers}
 use Rattle.sheets.specs.Packing.{packUnion}
 use Rattle.promises.specs.Writing.{WriteOutcome, writeOutcomeBy}
-use Rattle.writing.specs.declared.Written.{Written}
+use Rattle.write_stage.specs.declared.Written.{Written}
 
 -- the call gives this outcome
 pub record Gives (outcome : WriteOutcome) (r : Written) (sheet : List ℕ) : Type 0 where

@@ -1,8 +1,0 @@
-use Rattle.writing.proofs.WriteLaws.{stages}
-use Rattle.writing.proofs.write_read.Statement.{statement}
-use Rattle.writing.proofs.write_read.Tie as tie
-
-pub write-read-spec : {M : Type 1} → statement M
-write-read-spec =
-    tie.close
-    (tie.spec (λ c. search stages) (λ c κs. search stages) (λ c κs. search stages) (λ c. search stages) (λ c. search stages) (λ c. search stages) (λ c κs. search stages) (λ c κs. search stages) (λ c. search stages) (λ c. search stages) (λ c. search stages) (λ c κs. search stages) (λ c. search stages) (λ c. search stages))
