@@ -2,7 +2,7 @@
 use answering::answer;
 use answering::check;
 use libc::STDOUT_FILENO;
-use writing::Written;
+use write_stage::Written;
 use writing::write;
 
 // Prints some bytes.
