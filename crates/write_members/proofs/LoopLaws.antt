@@ -30,27 +30,27 @@ use Rattle.query_steps.specs.StepResults.{queryFound}
 use Rattle.query_steps.proofs.StepLaws.{atom-at}
 use Rattle.check_steps.proofs.WrittenLaws.{rule-steps}
 use Rattle.check_closed.proofs.ClosureLaws.{sameWord, same-step, merge-distinct}
-use Rattle.write_members.specs.Members.{Found, Holds, Tried}
+use Rattle.write_members.specs.Members.{MembersFound, HoldsMembers, Tried}
 use Rattle.write_members.proofs.MemberLaws.{holds-itself}
 
 -- ---- a loop that appends, for each number below `end` in order, what f gives
 
 -- what is left from i on makes the goal of the members so far
-pub record Left (f : ℕ → List Member) (end : ℕ) (goal : UCQ) (i : ℕ) (u : UCQ) : Type 0 where
+pub record LeftToAppend (f : ℕ → List Member) (end : ℕ) (goal : UCQ) (i : ℕ) (u : UCQ) : Type 0 where
   pub makes : appendedAll u (flatMap f (numbers i (end - i))) ≡ goal
 
 module _ (f : ℕ → List Member) (end : ℕ) (goal : UCQ) where
-  pub left-begins : (u : UCQ) → appendedAll u (flatMap f (numbers 0 end)) ≡ goal → Left f end goal 0 u
+  pub left-begins : (u : UCQ) → appendedAll u (flatMap f (numbers 0 end)) ≡ goal → LeftToAppend f end goal 0 u
   left-begins u e = record { makes = ap (λ l. appendedAll u (flatMap f l)) (all-left end) ∙ e }
 
-  module _ (i : ℕ) (u : UCQ) (left : Left f end goal i u) where
+  module _ (i : ℕ) (u : UCQ) (left : LeftToAppend f end goal i u) where
     later : i < end → appendedAll (appendedAll u (f i)) (flatMap f (numbers (i + 1) (end - (i + 1)))) ≡ goal
     unfolding flatMap
     later h =
         sym (appendedAll-append u (f i) (flatMap f (numbers (i + 1) (end - (i + 1)))))
         ∙ sym (ap (λ l. appendedAll u (flatMap f l)) (rest-cons i end h)) ∙ left .makes
 
-    pub left-next : (v : UCQ) → i < end → v ≡ appendedAll u (f i) → Left f end goal (i + 1) v
+    pub left-next : (v : UCQ) → i < end → v ≡ appendedAll u (f i) → LeftToAppend f end goal (i + 1) v
     left-next v h e = record { makes = ap (λ x. appendedAll x (flatMap f (numbers (i + 1) (end - (i + 1))))) e ∙ later h }
 
     pub left-over : i < end → mostMembers < length (appendedAll u (f i)) → mostMembers < length goal
@@ -65,36 +65,37 @@ module _ (f : ℕ → List Member) (end : ℕ) (goal : UCQ) where
     unfolding flatMap appendedAll
     left-done h = sym (ap (λ l. appendedAll u (flatMap f l)) (rest-nil i end h)) ∙ left .makes
 
-    left-empty : i < end → f i ≡ [] → Left f end goal (i + 1) u
+    left-empty : i < end → f i ≡ [] → LeftToAppend f end goal (i + 1) u
     unfolding appendedAll
     left-empty h e = left-next u h (sym (ap (appendedAll u) e))
 
   -- the first k give nothing
-  left-skip : (u : UCQ) → Left f end goal 0 u → (k : ℕ) → k ≤ end → ((j : ℕ) → j < k → f j ≡ []) → Left f end goal k u
+  left-skip : (u : UCQ) → LeftToAppend f end goal 0 u → (k : ℕ) → k ≤ end → ((j : ℕ) → j < k → f j ≡ []) → LeftToAppend f end goal k u
   left-skip u left zero h e = left
   left-skip u left (suc k) h e =
-      subst (λ j. Left f end goal j u) (add-one k)
+      subst (λ j. LeftToAppend f end goal j u) (add-one k)
       (left-empty k u (left-skip u left k (omega arith) (λ j l. e j (omega arith))) (omega arith) (e k (omega arith)))
 
   -- ---- the same of a table
 
   module _ (table keys : List ℕ) (m i : ℕ) where
-    pub loop-done : Found table keys m → Left f end goal i (unionIn table m) → end ≤ i → Holds goal table keys m
+    pub loop-done : MembersFound table keys m → LeftToAppend f end goal i (unionIn table m) → end ≤ i → HoldsMembers goal table keys m
     loop-done found left h = holds-itself goal table keys m found (left-done i (unionIn table m) left h)
 
-  module _ (u : UCQ) (i : ℕ) (left : Left f end goal i u) (h : i < end) (table keys : List ℕ) (m : ℕ)
-      (holds : Holds (appendedAll u (f i)) table keys m) where
-    pub loop-over : mostMembers < m → Holds goal table keys m
+  module _ (u : UCQ) (i : ℕ) (left : LeftToAppend f end goal i u) (h : i < end) (table keys : List ℕ) (m : ℕ)
+      (holds : HoldsMembers (appendedAll u (f i)) table keys m) where
+    pub loop-over : mostMembers < m → HoldsMembers goal table keys m
     loop-over l = record {
       found = λ g. absurd (omega arith);
       union-is = λ g. absurd (omega arith);
       many = λ g. left-over i u left h (holds .many l);
     }
 
-    pub loop-next : m ≤ mostMembers → Left f end goal (i + 1) (unionIn table m)
+    pub loop-next : m ≤ mostMembers → LeftToAppend f end goal (i + 1) (unionIn table m)
     loop-next l = left-next i u left (unionIn table m) h (holds .union-is l)
 
-pub holds-found : (union : UCQ) (table keys : List ℕ) (m : ℕ) → Holds union table keys m → m ≤ mostMembers → Found table keys m
+pub holds-found : (union : UCQ) (table keys : List ℕ) (m : ℕ) → HoldsMembers union table keys m → m ≤ mostMembers
+    → MembersFound table keys m
 holds-found union table keys m holds l = holds .found l
 
 -- ---- rules
@@ -114,17 +115,18 @@ module _ (rules : List ℕ) (count : ℕ) (within : count ≤ length rules) (par
   pub by-rule : (r : QueryFound) (step : ℕ) (later later-keys : List ℕ) (m : ℕ)
       → ((rs : List Rule) (l : ℕ) → At rs l (ruleIn (getD rules k 0)) → queryFound r ≡ ruleStep rs (queryOf q) i l)
       → stepOf step ≡ ruleOf
-      → Holds (appendedAll (unionIn table n) (stepped (stepOf step) (queryFound r))) later later-keys m → Holds ruled later later-keys m
+      → HoldsMembers (appendedAll (unionIn table n) (stepped (stepOf step) (queryFound r))) later later-keys m
+      → HoldsMembers ruled later later-keys m
   unfolding byRule
   by-rule r step later later-keys m f e holds =
-      subst (λ u. Holds u later later-keys m)
+      subst (λ u. HoldsMembers u later later-keys m)
       (ap (λ s. appendedAll (unionIn table n) (stepped s (queryFound r))) e
       ∙ ap (λ o. appendedAll (unionIn table n) (stepped ruleOf o)) (rule-steps rules count within r q i k h f))
       holds
 
   -- a rule for another predicate makes nothing
-  pub unnamed : (b : Bool) → Found table keys n → length (q .atoms) ≡ 8 → Small q → i < q .size
-      → b ≡ names (ruleIn (getD rules k 0)) (wordAtom (getD (q .atoms) i 0)) → b ≡ false → Holds ruled table keys n
+  pub unnamed : (b : Bool) → MembersFound table keys n → length (q .atoms) ≡ 8 → Small q → i < q .size
+      → b ≡ names (ruleIn (getD rules k 0)) (wordAtom (getD (q .atoms) i 0)) → b ≡ false → HoldsMembers ruled table keys n
   unfolding byRule ruleStep stepped appendedAll
   unnamed b found l s g e f =
       let none-made = unnamed-none (queryOf q) (ruleIn (getD rules k 0)) (wordAtom (getD (q .atoms) i 0)) (sym e ∙ f) in
@@ -139,8 +141,8 @@ module _ (rules : List ℕ) (count : ℕ) (within : count ≤ length rules) (par
   tried-before (some r) f = appended-alike (unionIn table n) record { step = ruleOf; query = r } (f r refl)
 
   -- nor what a word that stands earlier makes
-  pub second-try : (b : Bool) → Found table keys n → Tried inTable (queryOf q) i k (unionIn table n)
-      → b ≡ any (sameWord rules k) (numbers 0 k) → b ≡ true → Holds ruled table keys n
+  pub second-try : (b : Bool) → MembersFound table keys n → Tried inTable (queryOf q) i k (unionIn table n)
+      → b ≡ any (sameWord rules k) (numbers 0 k) → b ≡ true → HoldsMembers ruled table keys n
   unfolding byRule
   second-try b found tried e f =
       let (j, m, t) = any-iff (sameWord rules k) (numbers 0 k) .0 (subst T (sym (sym e ∙ f)) tt) in
@@ -160,7 +162,8 @@ module _ (rules : List Rule) (parent : ℕ) (q : Query) (i k : ℕ) (u : UCQ) wh
       appendedAll-covers u (stepped record { kind = 1; parent = parent; atom = i; other = k } (ruleStep rules q i k))
       (found-stepped rules q record { kind = 1; parent = parent; atom = i; other = k } (ruleStep rules q i k) e)
 
-  pub one-more-tried : (table keys : List ℕ) (m : ℕ) → Tried rules q i k u → Holds (appendedAll u (byRule rules parent q i k)) table keys m
+  pub one-more-tried : (table keys : List ℕ) (m : ℕ) → Tried rules q i k u
+      → HoldsMembers (appendedAll u (byRule rules parent q i k)) table keys m
       → m ≤ mostMembers → Tried rules q i (k + 1) (unionIn table m)
   one-more-tried table keys m tried holds l =
       subst (Tried rules q i (k + 1)) (sym (holds .union-is l)) record {
@@ -176,11 +179,11 @@ module _ (rules : List Rule) (parent : ℕ) (q : Query) (i k : ℕ) (u : UCQ) wh
 module _ (parent : ℕ) (q : QueryWords) (i j : ℕ) where
   pub by-merge : (u : UCQ) (r : QueryFound) (step : ℕ) (later later-keys : List ℕ) (m : ℕ) → queryFound r ≡ mergeStep (queryOf q) i j
       → stepOf step ≡ record { kind = 2; parent = parent; atom = i; other = j }
-      → Holds (appendedAll u (stepped (stepOf step) (queryFound r))) later later-keys m
-      → Holds (appendedAll u (byMerge parent (queryOf q) i j)) later later-keys m
+      → HoldsMembers (appendedAll u (stepped (stepOf step) (queryFound r))) later later-keys m
+      → HoldsMembers (appendedAll u (byMerge parent (queryOf q) i j)) later later-keys m
   unfolding byMerge
   by-merge u r step later later-keys m e f holds =
-      subst (λ x. Holds x later later-keys m)
+      subst (λ x. HoldsMembers x later later-keys m)
       (ap (λ s. appendedAll u (stepped s (queryFound r))) f
       ∙ ap (λ o. appendedAll u (stepped record { kind = 2; parent = parent; atom = i; other = j } o)) e)
       holds
@@ -191,7 +194,7 @@ module _ (parent : ℕ) (q : QueryWords) (i j : ℕ) where
   not-merged h = simp (le-ltb i j (omega arith))
 
 pub merges-begin : (parent : ℕ) (q : QueryWords) (i size : ℕ) (u : UCQ) → i < size
-    → Left (byMerge parent (queryOf q) i) size (appendedAll u (flatMap (byMerge parent (queryOf q) i) (numbers 0 size))) (i + 1) u
+    → LeftToAppend (byMerge parent (queryOf q) i) size (appendedAll u (flatMap (byMerge parent (queryOf q) i) (numbers 0 size))) (i + 1) u
 merges-begin parent q i size u h =
     left-skip (byMerge parent (queryOf q) i) size goal u (left-begins (byMerge parent (queryOf q) i) size goal u refl) (i + 1) (omega arith)
     (λ j l. not-merged parent q i j l)
@@ -199,7 +202,7 @@ merges-begin parent q i size u h =
     goal : UCQ
     goal = appendedAll u (flatMap (byMerge parent (queryOf q) i) (numbers 0 size))
 
-pub found-few : (table keys : List ℕ) (n : ℕ) → Found table keys n → n ≤ mostMembers
+pub found-few : (table keys : List ℕ) (n : ℕ) → MembersFound table keys n → n ≤ mostMembers
 found-few table keys n f = f .few
 
 -- ---- the four loops: what holds before each turn
@@ -207,17 +210,17 @@ found-few table keys n f = f .few
 -- the rules in order on one atom
 module _ (rules : List Rule) (count parent : ℕ) (q : Query) (i : ℕ) (goal : UCQ) where
   pub record RulesLeft (k : ℕ) (table keys : List ℕ) (n : ℕ) : Type 0 where
-    pub found : Found table keys n
-    pub left : Left (byRule rules parent q i) count goal k (unionIn table n)
+    pub found : MembersFound table keys n
+    pub left : LeftToAppend (byRule rules parent q i) count goal k (unionIn table n)
     pub tried : Tried rules q i k (unionIn table n)
 
   module _ (before before-keys : List ℕ) (n k : ℕ) (now : RulesLeft k before before-keys n) where
-    pub rules-done : count ≤ k → Holds goal before before-keys n
+    pub rules-done : count ≤ k → HoldsMembers goal before before-keys n
     rules-done h = loop-done (byRule rules parent q i) count goal before before-keys n k (now .found) (now .left) h
 
-    module _ (table keys : List ℕ) (m : ℕ) (holds : Holds (appendedAll (unionIn before n) (byRule rules parent q i k)) table keys m)
+    module _ (table keys : List ℕ) (m : ℕ) (holds : HoldsMembers (appendedAll (unionIn before n) (byRule rules parent q i k)) table keys m)
         (h : k < count) where
-      pub rules-stop : mostMembers < m → Holds goal table keys m
+      pub rules-stop : mostMembers < m → HoldsMembers goal table keys m
       rules-stop = loop-over (byRule rules parent q i) count goal (unionIn before n) k (now .left) h table keys m holds
 
       pub rules-next : m ≤ mostMembers → RulesLeft (k + 1) table keys m
@@ -227,7 +230,7 @@ module _ (rules : List Rule) (count parent : ℕ) (q : Query) (i : ℕ) (goal : 
         tried = one-more-tried rules parent q i k (unionIn before n) table keys m (now .tried) holds l;
       }
 
-pub rules-begin : (rules : List Rule) (count parent : ℕ) (q : Query) (i : ℕ) (table keys : List ℕ) (n : ℕ) → Found table keys n
+pub rules-begin : (rules : List Rule) (count parent : ℕ) (q : Query) (i : ℕ) (table keys : List ℕ) (n : ℕ) → MembersFound table keys n
     → RulesLeft rules count parent q i (appendedAll (unionIn table n) (flatMap (byRule rules parent q i) (numbers 0 count))) 0 table keys n
 rules-begin rules count parent q i table keys n f = record {
   found = f;
@@ -242,17 +245,17 @@ module _ (rules : List Rule) (count parent : ℕ) (q : Query) (size : ℕ) (goal
   byRules i = flatMap (byRule rules parent q i) (numbers 0 count)
 
   pub record AtomsLeft (i : ℕ) (table keys : List ℕ) (n : ℕ) : Type 0 where
-    pub found : Found table keys n
-    pub left : Left byRules size goal i (unionIn table n)
+    pub found : MembersFound table keys n
+    pub left : LeftToAppend byRules size goal i (unionIn table n)
 
   module _ (before before-keys : List ℕ) (n i : ℕ) (now : AtomsLeft i before before-keys n) where
-    pub atoms-done : size ≤ i → Holds goal before before-keys n
+    pub atoms-done : size ≤ i → HoldsMembers goal before before-keys n
     atoms-done h = loop-done byRules size goal before before-keys n i (now .found) (now .left) h
 
     module _ (table keys : List ℕ) (m : ℕ)
-        (holds : Holds (appendedAll (unionIn before n) (flatMap (byRule rules parent q i) (numbers 0 count))) table keys m)
+        (holds : HoldsMembers (appendedAll (unionIn before n) (flatMap (byRule rules parent q i) (numbers 0 count))) table keys m)
         (h : i < size) where
-      pub atoms-stop : mostMembers < m → Holds goal table keys m
+      pub atoms-stop : mostMembers < m → HoldsMembers goal table keys m
       atoms-stop = loop-over byRules size goal (unionIn before n) i (now .left) h table keys m holds
 
       pub atoms-next : m ≤ mostMembers → AtomsLeft (i + 1) table keys m
@@ -261,7 +264,7 @@ module _ (rules : List Rule) (count parent : ℕ) (q : Query) (size : ℕ) (goal
         left = loop-next byRules size goal (unionIn before n) i (now .left) h table keys m holds l;
       }
 
-pub atoms-begin : (rules : List Rule) (count parent : ℕ) (q : Query) (size : ℕ) (table keys : List ℕ) (n : ℕ) → Found table keys n
+pub atoms-begin : (rules : List Rule) (count parent : ℕ) (q : Query) (size : ℕ) (table keys : List ℕ) (n : ℕ) → MembersFound table keys n
     → AtomsLeft rules count parent q size
     (appendedAll (unionIn table n) (flatMap (λ i. flatMap (byRule rules parent q i) (numbers 0 count)) (numbers 0 size))) 0 table keys n
 atoms-begin rules count parent q size table keys n f = record {
@@ -274,18 +277,18 @@ atoms-begin rules count parent q size table keys n f = record {
 -- the later atoms in order
 module _ (parent : ℕ) (q : QueryWords) (i size : ℕ) (goal : UCQ) where
   pub record LaterLeft (j : ℕ) (table keys : List ℕ) (n : ℕ) : Type 0 where
-    pub found : Found table keys n
-    pub left : Left (byMerge parent (queryOf q) i) size goal j (unionIn table n)
+    pub found : MembersFound table keys n
+    pub left : LeftToAppend (byMerge parent (queryOf q) i) size goal j (unionIn table n)
 
   module _ (before before-keys : List ℕ) (n j : ℕ) (now : LaterLeft j before before-keys n) where
-    pub later-done : size ≤ j → Holds goal before before-keys n
+    pub later-done : size ≤ j → HoldsMembers goal before before-keys n
     later-done h = loop-done (byMerge parent (queryOf q) i) size goal before before-keys n j (now .found) (now .left) h
 
     module _ (table keys : List ℕ) (m : ℕ) (r : QueryFound) (step : ℕ)
-        (holds : Holds (appendedAll (unionIn before n) (stepped (stepOf step) (queryFound r))) table keys m)
+        (holds : HoldsMembers (appendedAll (unionIn before n) (stepped (stepOf step) (queryFound r))) table keys m)
         (h : j < size) (e : queryFound r ≡ mergeStep (queryOf q) i j)
         (f : stepOf step ≡ record { kind = 2; parent = parent; atom = i; other = j }) where
-      pub later-stop : mostMembers < m → Holds goal table keys m
+      pub later-stop : mostMembers < m → HoldsMembers goal table keys m
       later-stop =
           loop-over (byMerge parent (queryOf q) i) size goal (unionIn before n) j (now .left) h table keys m
           (by-merge parent q i j (unionIn before n) r step table keys m e f holds)
@@ -297,7 +300,7 @@ module _ (parent : ℕ) (q : QueryWords) (i size : ℕ) (goal : UCQ) where
             (by-merge parent q i j (unionIn before n) r step table keys m e f holds) l;
       }
 
-pub later-begin : (parent : ℕ) (q : QueryWords) (i size : ℕ) (table keys : List ℕ) (n : ℕ) → Found table keys n → i < size
+pub later-begin : (parent : ℕ) (q : QueryWords) (i size : ℕ) (table keys : List ℕ) (n : ℕ) → MembersFound table keys n → i < size
     → LaterLeft parent q i size (appendedAll (unionIn table n) (flatMap (byMerge parent (queryOf q) i) (numbers 0 size)))
     (i + 1) table keys n
 later-begin parent q i size table keys n f h = record { found = f; left = merges-begin parent q i size (unionIn table n) h }
@@ -308,16 +311,17 @@ module _ (parent : ℕ) (q : Query) (size : ℕ) (goal : UCQ) where
   byMerges i = flatMap (byMerge parent q i) (numbers 0 size)
 
   pub record PairsLeft (i : ℕ) (table keys : List ℕ) (n : ℕ) : Type 0 where
-    pub found : Found table keys n
-    pub left : Left byMerges size goal i (unionIn table n)
+    pub found : MembersFound table keys n
+    pub left : LeftToAppend byMerges size goal i (unionIn table n)
 
   module _ (before before-keys : List ℕ) (n i : ℕ) (now : PairsLeft i before before-keys n) where
-    pub pairs-done : size ≤ i → Holds goal before before-keys n
+    pub pairs-done : size ≤ i → HoldsMembers goal before before-keys n
     pairs-done h = loop-done byMerges size goal before before-keys n i (now .found) (now .left) h
 
     module _ (table keys : List ℕ) (m : ℕ)
-        (holds : Holds (appendedAll (unionIn before n) (flatMap (byMerge parent q i) (numbers 0 size))) table keys m) (h : i < size) where
-      pub pairs-stop : mostMembers < m → Holds goal table keys m
+        (holds : HoldsMembers (appendedAll (unionIn before n) (flatMap (byMerge parent q i) (numbers 0 size))) table keys m)
+        (h : i < size) where
+      pub pairs-stop : mostMembers < m → HoldsMembers goal table keys m
       pairs-stop = loop-over byMerges size goal (unionIn before n) i (now .left) h table keys m holds
 
       pub pairs-next : m ≤ mostMembers → PairsLeft (i + 1) table keys m
@@ -326,7 +330,7 @@ module _ (parent : ℕ) (q : Query) (size : ℕ) (goal : UCQ) where
         left = loop-next byMerges size goal (unionIn before n) i (now .left) h table keys m holds l;
       }
 
-pub pairs-begin : (parent : ℕ) (q : Query) (size : ℕ) (table keys : List ℕ) (n : ℕ) → Found table keys n
+pub pairs-begin : (parent : ℕ) (q : Query) (size : ℕ) (table keys : List ℕ) (n : ℕ) → MembersFound table keys n
     → PairsLeft parent q size
     (appendedAll (unionIn table n) (flatMap (λ i. flatMap (byMerge parent q i) (numbers 0 size)) (numbers 0 size))) 0 table keys n
 pairs-begin parent q size table keys n f = record {

@@ -25,7 +25,7 @@ use Rattle.query_steps.specs.declared.steps.QueryFound.{QueryFound}
 use Rattle.query_steps.specs.StepResults.{queryFound}
 use Rattle.check_distinct.specs.Keys.{Keys}
 use Rattle.check_steps.proofs.WrittenLaws.{is-found, is-none}
-use Rattle.write_members.specs.Members.{Found, Holds}
+use Rattle.write_members.specs.Members.{MembersFound, HoldsMembers}
 
 pub members-length : (table : List ℕ) (n : ℕ) → length (unionIn table n) ≡ n
 unfolding unionIn
@@ -33,7 +33,7 @@ members-length table n = numbered-length (memberIn table) n
 
 -- ---- what is known of a table of members
 
-module _ (table keys : List ℕ) (n : ℕ) (f : Found table keys n) where
+module _ (table keys : List ℕ) (n : ℕ) (f : MembersFound table keys n) where
   pub found-rows : Rows table n
   found-rows = f .rows
 
@@ -47,17 +47,18 @@ module _ (table keys : List ℕ) (n : ℕ) (f : Found table keys n) where
   room-for-key h = let r = f .key-room in omega arith
 
 -- the table as it is holds the union that it holds
-pub holds-itself : (union : UCQ) (table keys : List ℕ) (n : ℕ) → Found table keys n → unionIn table n ≡ union → Holds union table keys n
+pub holds-itself : (union : UCQ) (table keys : List ℕ) (n : ℕ) → MembersFound table keys n → unionIn table n ≡ union
+    → HoldsMembers union table keys n
 holds-itself union table keys n f e = record { found = λ h. f; union-is = λ h. e; many = λ h. (let g = f .few in absurd (omega arith)) }
 
 -- ---- a new member
 
-module _ (table keys : List ℕ) (n : ℕ) (f : Found table keys n) (q : QueryWords) (step : ℕ) where
+module _ (table keys : List ℕ) (n : ℕ) (f : MembersFound table keys n) (q : QueryWords) (step : ℕ) where
   abbrev member : Member
   member = record { step = stepOf step; query = queryOf q }
 
   -- there is no room
-  pub no-room : mostMembers ≤ n → Holds (unionIn table n ++ (member ∷ [])) table keys (n + 1)
+  pub no-room : mostMembers ≤ n → HoldsMembers (unionIn table n ++ (member ∷ [])) table keys (n + 1)
   no-room h =
       let l : length (unionIn table n ++ (member ∷ [])) ≡ length (unionIn table n) + 1 = length-append (unionIn table n) (member ∷ []) in
       let m = members-length table n in
@@ -83,13 +84,13 @@ module _ (table keys : List ℕ) (n : ℕ) (f : Found table keys n) (q : QueryWo
         }
 
     pub holds-longer : (later : List ℕ) (v : ℕ) → later ≡ paste table (stride * n) row stride → v ≡ key (queryOf q)
-        → Holds (unionIn table n ++ (member ∷ [])) later (set keys n v) (n + 1)
+        → HoldsMembers (unionIn table n ++ (member ∷ [])) later (set keys n v) (n + 1)
     holds-longer later v e k =
-        subst (λ t. Holds (unionIn table n ++ (member ∷ [])) t (set keys n v) (n + 1)) (sym e)
+        subst (λ t. HoldsMembers (unionIn table n ++ (member ∷ [])) t (set keys n v) (n + 1)) (sym e)
         (holds-itself (unionIn table n ++ (member ∷ [])) longer (set keys n v) (n + 1) found
         (longer-union table row n member r (f .rows) (room-for-row table keys n f h)))
       where
-        found : Found longer (set keys n v) (n + 1)
+        found : MembersFound longer (set keys n v) (n + 1)
         found = record {
           few = omega arith;
           room = (let l : length longer ≡ length table =
@@ -105,8 +106,8 @@ module _ (table keys : List ℕ) (n : ℕ) (f : Found table keys n) (q : QueryWo
 
 module _ (table keys : List ℕ) (n : ℕ) (r : QueryFound) (s : Step) where
   -- nothing
-  pub nothing-appended : Found table keys n → r .found ≡ false
-      → Holds (appendedAll (unionIn table n) (stepped s (queryFound r))) table keys n
+  pub nothing-appended : MembersFound table keys n → r .found ≡ false
+      → HoldsMembers (appendedAll (unionIn table n) (stepped s (queryFound r))) table keys n
   unfolding appendedAll stepped
   nothing-appended f e =
       holds-itself (appendedAll (unionIn table n) (stepped s (queryFound r))) table keys n f
@@ -120,18 +121,18 @@ module _ (table keys : List ℕ) (n : ℕ) (r : QueryFound) (s : Step) where
   unfolding appendedAll appended stepped
   one-appended e = ap (λ o. appendedAll (unionIn table n) (stepped s o)) (is-found r (queryFound r) refl e)
 
-  pub alike-appended : (b : Bool) → Found table keys n → r .found ≡ true → b ≡ isAlike → b ≡ true
-      → Holds (appendedAll (unionIn table n) (stepped s (queryFound r))) table keys n
+  pub alike-appended : (b : Bool) → MembersFound table keys n → r .found ≡ true → b ≡ isAlike → b ≡ true
+      → HoldsMembers (appendedAll (unionIn table n) (stepped s (queryFound r))) table keys n
   alike-appended b f e g h =
       holds-itself (appendedAll (unionIn table n) (stepped s (queryFound r))) table keys n f
       (sym (one-appended e
       ∙ ap (λ x. pick x (unionIn table n) (unionIn table n ++ (record { step = s; query = queryOf (r .query) } ∷ []))) (sym g ∙ h)))
 
   pub new-appended : (b : Bool) (later later-keys : List ℕ) (m : ℕ) → r .found ≡ true → b ≡ isAlike → b ≡ false
-      → Holds (unionIn table n ++ (record { step = s; query = queryOf (r .query) } ∷ [])) later later-keys m
-      → Holds (appendedAll (unionIn table n) (stepped s (queryFound r))) later later-keys m
+      → HoldsMembers (unionIn table n ++ (record { step = s; query = queryOf (r .query) } ∷ [])) later later-keys m
+      → HoldsMembers (appendedAll (unionIn table n) (stepped s (queryFound r))) later later-keys m
   new-appended b later later-keys m e g h =
-      subst (λ u. Holds u later later-keys m)
+      subst (λ u. HoldsMembers u later later-keys m)
       (sym (one-appended e
       ∙ ap (λ x. pick x (unionIn table n) (unionIn table n ++ (record { step = s; query = queryOf (r .query) } ∷ []))) (sym g ∙ h)))
 

@@ -22,7 +22,7 @@ use Rattle.words.specs.Rows.{memberIn, RowOf}
 use Rattle.words.specs.Laws.Rows.{rows, union-at, rules-length}
 use Rattle.words.specs.Laws.NewRows.{new-member}
 use Rattle.query_key.specs.Key.{key}
-use Rattle.write_members.specs.Members.{Found, Holds, HoldsUnion}
+use Rattle.write_members.specs.Members.{MembersFound, HoldsMembers, HoldsUnion}
 use Rattle.write_members.proofs.MemberLaws.{members-length, found-rows, holds-longer}
 use Rattle.write_members.proofs.LoopLaws.{holds-found, found-few}
 
@@ -53,9 +53,9 @@ module _ (rules : List ℕ) (count : ℕ) (within : count ≤ length rules) (k :
       sym (appendedAll-append u ruleResults mergeResults) ∙ ap (appendedAll u) (sym steps-are)
       ∙ ap (λ p. appendedAll u (stepsFrom (rulesIn rules count) k p)) e
 
-  module _ (table keys : List ℕ) (n : ℕ) (holds : Holds (appendedAll u ruleResults) table keys n) where
+  module _ (table keys : List ℕ) (n : ℕ) (holds : HoldsMembers (appendedAll u ruleResults) table keys n) where
     -- the rules alone lead to more than are allowed
-    pub rules-over : mostMembers < n → Holds allResults table keys n
+    pub rules-over : mostMembers < n → HoldsMembers allResults table keys n
     rules-over l =
         let g : length (appendedAll u ruleResults) ≤ length allResults =
         subst (λ x. length (appendedAll u ruleResults) ≤ length x) all-steps
@@ -64,20 +64,20 @@ module _ (rules : List ℕ) (count : ℕ) (within : count ≤ length rules) (k :
         record { found = λ x. absurd (omega arith); union-is = λ x. absurd (omega arith); many = λ x. omega arith }
 
     pub then-merges : (later later-keys : List ℕ) (o : ℕ) → n ≤ mostMembers
-        → Holds (appendedAll (unionIn table n) mergeResults) later later-keys o → Holds allResults later later-keys o
+        → HoldsMembers (appendedAll (unionIn table n) mergeResults) later later-keys o → HoldsMembers allResults later later-keys o
     then-merges later later-keys o l =
-        subst (λ x. Holds x later later-keys o) (ap (λ x. appendedAll x mergeResults) (holds .union-is l) ∙ all-steps)
+        subst (λ x. HoldsMembers x later later-keys o) (ap (λ x. appendedAll x mergeResults) (holds .union-is l) ∙ all-steps)
 
 -- ---- the members in order
 
 module _ (rules : List Rule) (q : Query) where
   -- k members have been taken
-  pub record Taken (k : ℕ) (table keys : List ℕ) (n : ℕ) : Type 0 where
-    pub found : Found table keys n
+  pub record MembersTaken (k : ℕ) (table keys : List ℕ) (n : ℕ) : Type 0 where
+    pub found : MembersFound table keys n
     pub union-is : unionIn table n ≡ grown rules q k
     pub within : k ≤ n
 
-  module _ (before before-keys : List ℕ) (n k : ℕ) (now : Taken k before before-keys n) where
+  module _ (before before-keys : List ℕ) (n k : ℕ) (now : MembersTaken k before before-keys n) where
     pub taken-all : n ≤ k → HoldsUnion (writtenUnion mostMembers rules q) before n
     unfolding writtenUnion
     taken-all g =
@@ -91,7 +91,7 @@ module _ (rules : List Rule) (q : Query) where
         }
 
     module _ (table keys : List ℕ) (m : ℕ)
-        (holds : Holds (withStepsOf rules k (some (memberIn before k)) (unionIn before n)) table keys m) (h : k < n) where
+        (holds : HoldsMembers (withStepsOf rules k (some (memberIn before k)) (unionIn before n)) table keys m) (h : k < n) where
       one-more : withStepsOf rules k (some (memberIn before k)) (unionIn before n) ≡ grown rules q (k + 1)
       unfolding grown
       one-more =
@@ -109,7 +109,7 @@ module _ (rules : List Rule) (q : Query) where
           let b = members-length table m in
           omega arith
 
-      pub taken-next : m ≤ mostMembers → Taken (k + 1) table keys m
+      pub taken-next : m ≤ mostMembers → MembersTaken (k + 1) table keys m
       taken-next l = record { found = holds .found l; union-is = holds .union-is l ∙ one-more; within = kept-within l }
 
       pub taken-stop : mostMembers < m → HoldsUnion (writtenUnion mostMembers rules q) table m
@@ -126,8 +126,8 @@ module _ (rules : List Rule) (q : Query) where
       }
 
 -- member 0 alone
-pub taken-begin : (rules : List Rule) (table keys : List ℕ) → Found table keys 1 → memberIn table 0 .step ≡ stepOf 0
-    → Taken rules (memberIn table 0 .query) 0 table keys 1
+pub taken-begin : (rules : List Rule) (table keys : List ℕ) → MembersFound table keys 1 → memberIn table 0 .step ≡ stepOf 0
+    → MembersTaken rules (memberIn table 0 .query) 0 table keys 1
 unfolding unionIn grown numbers stepOf
 taken-begin rules table keys f e = record {
   found = f;
@@ -138,7 +138,7 @@ taken-begin rules table keys f e = record {
 -- the question put into an empty table
 module _ (table keys later row : List ℕ) (q : QueryWords) (r : RowOf (record { step = stepOf 0; query = queryOf q }) row)
     (room : tableWords ≤ length table) (e : later ≡ paste table 0 row stride) where
-  none-yet : mostMembers ≤ length keys → Found table keys 0
+  none-yet : mostMembers ≤ length keys → MembersFound table keys 0
   none-yet l = record {
     few = omega arith;
     room = room;
@@ -148,7 +148,7 @@ module _ (table keys later row : List ℕ) (q : QueryWords) (r : RowOf (record {
   }
 
   pub first-found : (v : ℕ) → mostMembers ≤ length keys → Small q → Unrepeated (queryOf q .atoms) → v ≡ key (queryOf q)
-      → Found later (set keys 0 v) 1
+      → MembersFound later (set keys 0 v) 1
   first-found v l s u k =
       holds-longer table keys 0 (none-yet l) q 0 (omega arith) s u row r later v e k .found (omega arith)
 

@@ -13,7 +13,7 @@ use Rattle.words.specs.Rows.{Rows}
 use Rattle.check_distinct.specs.Keys.{Keys}
 
 -- n members stand in the table, no more than are allowed, and their keys in a list; both have room for all that are allowed
-pub record Found (table keys : List ℕ) (n : ℕ) : Type 0 where
+pub record MembersFound (table keys : List ℕ) (n : ℕ) : Type 0 where
   pub few : n ≤ mostMembers
   pub room : tableWords ≤ length table
   pub key-room : mostMembers ≤ length keys
@@ -21,8 +21,8 @@ pub record Found (table keys : List ℕ) (n : ℕ) : Type 0 where
   pub keyed : Keys table n keys
 
 -- n is the number of the union's members, which stand in the table; or it is more than allowed, and so is the number of the members
-pub record Holds (union : UCQ) (table keys : List ℕ) (n : ℕ) : Type 0 where
-  pub found : n ≤ mostMembers → Found table keys n
+pub record HoldsMembers (union : UCQ) (table keys : List ℕ) (n : ℕ) : Type 0 where
+  pub found : n ≤ mostMembers → MembersFound table keys n
   pub union-is : n ≤ mostMembers → unionIn table n ≡ union
   pub many : mostMembers < n → mostMembers < length union
 

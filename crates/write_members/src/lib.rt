@@ -26,13 +26,13 @@ ghost use Rattle.words.specs.Records.{stepOf};
 ghost use Rattle.words.specs.Words.{queryOf, Small, rulesIn, unionIn, tableWords};
 ghost use Rattle.words.specs.Rows.{memberIn};
 ghost use Rattle.query_steps.specs.StepResults.{queryFound};
-ghost use Rattle.write_members.specs.Members.{Found, Holds, HoldsUnion, Tried};
+ghost use Rattle.write_members.specs.Members.{MembersFound, HoldsMembers, HoldsUnion, Tried};
 
 // Appends the question with the step beside it, where there is room. The number of members then, which is one more than allowed where
 // there is none.
 fn append_new(q: QueryWords, step: u64, table: &mut [u64], n: usize, keys: &mut [u64]) -> usize
-    requires { ⌜ Found (now table) (now keys) n × Small q × Unrepeated (queryOf q .atoms) ⌝ }
-    ensures { λ m. ⌜ Holds (unionIn (now (table .entry)) n ++ (record { step = stepOf step; query = queryOf q } ∷ []))
+    requires { ⌜ MembersFound (now table) (now keys) n × Small q × Unrepeated (queryOf q .atoms) ⌝ }
+    ensures { λ m. ⌜ HoldsMembers (unionIn (now (table .entry)) n ++ (record { step = stepOf step; query = queryOf q } ∷ []))
         (now (table .exit)) (now (keys .exit)) m ⌝ }
 {
     if n < MOST_MEMBERS {
@@ -45,8 +45,8 @@ fn append_new(q: QueryWords, step: u64, table: &mut [u64], n: usize, keys: &mut 
 
 // Appends what a step leads to, with the step beside it, unless that is alike to a member. The number of members then.
 fn append(r: QueryFound, step: u64, table: &mut [u64], n: usize, keys: &mut [u64]) -> usize
-    requires { ⌜ Found (now table) (now keys) n × Small (r .query) × (r .found ≡ true → Unrepeated (queryOf (r .query) .atoms)) ⌝ }
-    ensures { λ m. ⌜ Holds (appendedAll (unionIn (now (table .entry)) n) (stepped (stepOf step) (queryFound r)))
+    requires { ⌜ MembersFound (now table) (now keys) n × Small (r .query) × (r .found ≡ true → Unrepeated (queryOf (r .query) .atoms)) ⌝ }
+    ensures { λ m. ⌜ HoldsMembers (appendedAll (unionIn (now (table .entry)) n) (stepped (stepOf step) (queryFound r)))
         (now (table .exit)) (now (keys .exit)) m ⌝ }
 {
     let q = r.query;
@@ -73,8 +73,8 @@ fn append_by_rule(
     keys: &mut [u64],
 ) -> usize
     requires { ⌜ (count ≤ length (now rules)) × (count ≤ mostRules) × (k < count) × (parent < mostMembers) × Small q × (i < q .size)
-        × Found (now table) (now keys) n × Tried (rulesIn (now rules) count) (queryOf q) i k (unionIn (now table) n) ⌝ }
-    ensures { λ m. ⌜ Holds (appendedAll (unionIn (now (table .entry)) n)
+        × MembersFound (now table) (now keys) n × Tried (rulesIn (now rules) count) (queryOf q) i k (unionIn (now table) n) ⌝ }
+    ensures { λ m. ⌜ HoldsMembers (appendedAll (unionIn (now (table .entry)) n)
         (byRule (rulesIn (now (rules .entry)) count) parent (queryOf q) i k)) (now (table .exit)) (now (keys .exit)) m ⌝ }
 {
     let rule = rules[k];
@@ -103,8 +103,8 @@ fn append_by_rules(
     keys: &mut [u64],
 ) -> usize
     requires { ⌜ (count ≤ length (now rules)) × (count ≤ mostRules) × (parent < mostMembers) × Small q × (i < q .size)
-        × Found (now table) (now keys) n ⌝ }
-    ensures { λ m. ⌜ Holds (appendedAll (unionIn (now (table .entry)) n)
+        × MembersFound (now table) (now keys) n ⌝ }
+    ensures { λ m. ⌜ HoldsMembers (appendedAll (unionIn (now (table .entry)) n)
         (flatMap (byRule (rulesIn (now (rules .entry)) count) parent (queryOf q) i) (numbers 0 count)))
         (now (table .exit)) (now (keys .exit)) m ⌝ }
 {
@@ -130,8 +130,9 @@ fn append_by_atoms(
     n: usize,
     keys: &mut [u64],
 ) -> usize
-    requires { ⌜ (count ≤ length (now rules)) × (count ≤ mostRules) × (parent < mostMembers) × Small q × Found (now table) (now keys) n ⌝ }
-    ensures { λ m. ⌜ Holds (appendedAll (unionIn (now (table .entry)) n)
+    requires { ⌜ (count ≤ length (now rules)) × (count ≤ mostRules) × (parent < mostMembers) × Small q
+        × MembersFound (now table) (now keys) n ⌝ }
+    ensures { λ m. ⌜ HoldsMembers (appendedAll (unionIn (now (table .entry)) n)
         (flatMap (λ i. flatMap (byRule (rulesIn (now (rules .entry)) count) parent (queryOf q) i) (numbers 0 count)) (numbers 0 (q .size))))
         (now (table .exit)) (now (keys .exit)) m ⌝ }
 {
@@ -157,9 +158,9 @@ fn append_merged(
     n: usize,
     keys: &mut [u64],
 ) -> usize
-    requires { ⌜ (parent < mostMembers) × Small q × (i < q .size) × Found (now table) (now keys) n ⌝ }
-    ensures { λ m. ⌜ Holds (appendedAll (unionIn (now (table .entry)) n) (flatMap (byMerge parent (queryOf q) i) (numbers 0 (q .size))))
-        (now (table .exit)) (now (keys .exit)) m ⌝ }
+    requires { ⌜ (parent < mostMembers) × Small q × (i < q .size) × MembersFound (now table) (now keys) n ⌝ }
+    ensures { λ m. ⌜ HoldsMembers (appendedAll (unionIn (now (table .entry)) n)
+        (flatMap (byMerge parent (queryOf q) i) (numbers 0 (q .size)))) (now (table .exit)) (now (keys .exit)) m ⌝ }
 {
     let size = q.size;
     let mut members = n;
@@ -183,8 +184,8 @@ fn append_by_merges(
     n: usize,
     keys: &mut [u64],
 ) -> usize
-    requires { ⌜ (parent < mostMembers) × Small q × Found (now table) (now keys) n ⌝ }
-    ensures { λ m. ⌜ Holds (appendedAll (unionIn (now (table .entry)) n)
+    requires { ⌜ (parent < mostMembers) × Small q × MembersFound (now table) (now keys) n ⌝ }
+    ensures { λ m. ⌜ HoldsMembers (appendedAll (unionIn (now (table .entry)) n)
         (flatMap (λ i. flatMap (byMerge parent (queryOf q) i) (numbers 0 (q .size))) (numbers 0 (q .size))))
         (now (table .exit)) (now (keys .exit)) m ⌝ }
 {
@@ -210,8 +211,8 @@ fn append_steps(
     n: usize,
     keys: &mut [u64],
 ) -> usize
-    requires { ⌜ (count ≤ length (now rules)) × (count ≤ mostRules) × (k < n) × Found (now table) (now keys) n ⌝ }
-    ensures { λ m. ⌜ Holds (withStepsOf (rulesIn (now (rules .entry)) count) k (some (memberIn (now (table .entry)) k))
+    requires { ⌜ (count ≤ length (now rules)) × (count ≤ mostRules) × (k < n) × MembersFound (now table) (now keys) n ⌝ }
+    ensures { λ m. ⌜ HoldsMembers (withStepsOf (rulesIn (now (rules .entry)) count) k (some (memberIn (now (table .entry)) k))
         (unionIn (now (table .entry)) n)) (now (table .exit)) (now (keys .exit)) m ⌝ }
 {
     let q = load(table, k);
@@ -224,7 +225,7 @@ fn append_steps(
 
 // Takes the members of the table in order, from member 0 alone to all that are found.
 fn take_members(rules: &[u64], count: usize, table: &mut [u64], keys: &mut [u64]) -> usize
-    requires { ⌜ (count ≤ length (now rules)) × (count ≤ mostRules) × Found (now table) (now keys) 1
+    requires { ⌜ (count ≤ length (now rules)) × (count ≤ mostRules) × MembersFound (now table) (now keys) 1
         × (memberIn (now table) 0 .step ≡ stepOf 0) ⌝ }
     ensures { λ m. ⌜ HoldsUnion (writtenUnion mostMembers (rulesIn (now (rules .entry)) count) (memberIn (now (table .entry)) 0 .query))
         (now (table .exit)) m ⌝ }

@@ -13,7 +13,7 @@ use Rattle.promises.specs.Writing.{WriteOutcome, writeOutcomeBy}
 use Rattle.write_stage.specs.declared.Written.{Written}
 
 -- the call gives this outcome
-pub record Gives (outcome : WriteOutcome) (r : Written) (sheet : List ℕ) : Type 0 where
+pub record GivesOutcome (outcome : WriteOutcome) (r : Written) (sheet : List ℕ) : Type 0 where
   pub number-is : r .number ≡ outcome .number
   pub count-is : r .count ≡ outcome .count
   pub size-is : r .length ≡ outcome .size
@@ -25,4 +25,4 @@ refusalOfUnion union room = orElse (guard (ltb mostMembers (length union)) 15) (
 
 -- from rules and question that were read
 abbrev pub GivesUnion : UCQ → ℕ → Written → List ℕ → Type 0
-GivesUnion union room r sheet = Gives (writeOutcomeBy room union (refusalOfUnion union room)) r sheet
+GivesUnion union room r sheet = GivesOutcome (writeOutcomeBy room union (refusalOfUnion union room)) r sheet

@@ -9,17 +9,17 @@ use Rattle.words.specs.Limits.{sheetWidth}
 use Rattle.sheets.specs.Packing.{packUnion, unionSheet}
 use Rattle.promises.specs.Writing.{writeOutcomeBy}
 use Rattle.write_stage.specs.declared.Written.{Written}
-use Rattle.write_stage.specs.Stage.{Gives}
+use Rattle.write_stage.specs.Stage.{GivesOutcome}
 
 module _ (union : UCQ) (room : ℕ) (o : Option ℕ) (r : Written) (sheet : List ℕ) where
   pub gives-refusal : (n : ℕ) → o ≡ some n → r .number ≡ n → r .count ≡ 0 → r .length ≡ 0 → sheet ≡ replicate room 0
-      → Gives (writeOutcomeBy room union o) r sheet
+      → GivesOutcome (writeOutcomeBy room union o) r sheet
   gives-refusal n e number count size zeros =
-      subst (λ o. Gives (writeOutcomeBy room union o) r sheet) (sym e)
+      subst (λ o. GivesOutcome (writeOutcomeBy room union o) r sheet) (sym e)
       record { number-is = number; count-is = count; size-is = size; sheet-is = zeros }
 
   pub gives-union : o ≡ none → r .number ≡ 0 → r .count ≡ length union → r .length ≡ length (packUnion sheetWidth union)
-      → sheet ≡ unionSheet sheetWidth room union → Gives (writeOutcomeBy room union o) r sheet
+      → sheet ≡ unionSheet sheetWidth room union → GivesOutcome (writeOutcomeBy room union o) r sheet
   gives-union e number count size bytes =
-      subst (λ o. Gives (writeOutcomeBy room union o) r sheet) (sym e)
+      subst (λ o. GivesOutcome (writeOutcomeBy room union o) r sheet) (sym e)
       record { number-is = number; count-is = count; size-is = size; sheet-is = bytes }

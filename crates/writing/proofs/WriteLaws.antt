@@ -25,7 +25,7 @@ use Rattle.read_rules.specs.RuleLaws.{rules-few, rules-within}
 use Rattle.read_question.specs.QuestionWords.{QuestionRead}
 use Rattle.read_question.specs.QuestionLaws.{question-small, question-distinct}
 use Rattle.write_stage.specs.declared.Written.{Written}
-use Rattle.write_stage.specs.Stage.{Gives, refusalOfUnion, GivesUnion}
+use Rattle.write_stage.specs.Stage.{GivesOutcome, refusalOfUnion, GivesUnion}
 use Rattle.write_stage.specs.StageLaws.{gives-refusal}
 
 -- ---- rules and question, as they were read
@@ -51,7 +51,7 @@ module _ (rules question : List ℕ) (room : ℕ) where
   own-refusal o e = rules-and-question partners01 sheetWidth (twoSheets rules question) ∙ e
 
   outcome-refused : (n : ℕ) → orElse R Q ≡ some n → (r : Written) (sheet : List ℕ) → r .number ≡ n → r .count ≡ 0 → r .length ≡ 0
-      → sheet ≡ replicate room 0 → Gives (writeOutcome rules question room) r sheet
+      → sheet ≡ replicate room 0 → GivesOutcome (writeOutcome rules question room) r sheet
   unfolding writeOutcome orElse
   outcome-refused n e r sheet =
       gives-refusal (theWritten rules question) room (refusalToWrite rules question room) r sheet n
@@ -59,7 +59,7 @@ module _ (rules question : List ℕ) (room : ℕ) where
 
   module _ (p table : List ℕ) (first count : ℕ) (read : RulesRead p rules table first count) where
     pub rules-turned-back : (first ≡ 0 → ⊥) → (r : Written) (sheet : List ℕ) → r .number ≡ first → r .count ≡ 0 → r .length ≡ 0
-        → sheet ≡ replicate room 0 → Gives (writeOutcome rules question room) r sheet
+        → sheet ≡ replicate room 0 → GivesOutcome (writeOutcome rules question room) r sheet
     unfolding orElse
     rules-turned-back h r sheet e =
         outcome-refused (numberOf R)
@@ -74,7 +74,7 @@ module _ (rules question : List ℕ) (room : ℕ) where
       second-is = asked .number-is ∙ ap (λ t. numberOf (firstRefusal (questionRefusals t sheetWidth question))) table01
 
       pub question-turned-back : (second ≡ 0 → ⊥) → (r : Written) (sheet : List ℕ) → r .number ≡ second → r .count ≡ 0 → r .length ≡ 0
-          → sheet ≡ replicate room 0 → Gives (writeOutcome rules question room) r sheet
+          → sheet ≡ replicate room 0 → GivesOutcome (writeOutcome rules question room) r sheet
       unfolding orElse
       question-turned-back h r sheet e =
           outcome-refused (numberOf Q)
@@ -94,10 +94,10 @@ module _ (rules question : List ℕ) (room : ℕ) where
             ap₂ (writtenUnion mostMembers) (read .read zero ∙ ap (λ t. rulesAsRead t sheetWidth rules) table01) read-is
 
         pub all-read : (r : Written) (sheet : List ℕ) → GivesUnion (writtenUnion mostMembers (rulesIn table count) (queryOf q)) room r sheet
-            → Gives (writeOutcome rules question room) r sheet
+            → GivesOutcome (writeOutcome rules question room) r sheet
         unfolding writeOutcome orElse
         all-read r sheet g =
-            subst (λ o. Gives o r sheet)
+            subst (λ o. GivesOutcome o r sheet)
             (ap (λ u. writeOutcomeBy room u (refusalOfUnion u room)) union-is
             ∙ ap (writeOutcomeBy room (theWritten rules question))
             (sym (ap fromSheets (own-refusal none (ap₂ orElse rules-pass question-passes)))))
@@ -105,7 +105,8 @@ module _ (rules question : List ℕ) (room : ℕ) where
 
 -- ---- the pledge
 
-pub with-outcome : (rules question : List ℕ) (room : ℕ) (r : Written) (sheet : List ℕ) → Gives (writeOutcome rules question room) r sheet
+pub with-outcome : (rules question : List ℕ) (room : ℕ) (r : Written) (sheet : List ℕ)
+    → GivesOutcome (writeOutcome rules question room) r sheet
     → UnionWritten rules question room (r .number) (r .count) (r .length) sheet
 with-outcome rules question room r sheet g =
     rw (g .number-is, g .count-is, g .size-is, g .sheet-is) (pledge rules question room)

@@ -172,13 +172,13 @@ module _ (rules question union facts : List ℕ) where
 -- ---- how many
 
 -- a list without repeats is no longer than one that has all its elements
-within : {X : Type 0} (xs ys : List X) → Unrepeated xs → ((x : X) → x ∈ xs → x ∈ ys) → length xs ≤ length ys
-within xs ys u h =
+no-more-than : {X : Type 0} (xs ys : List X) → Unrepeated xs → ((x : X) → x ∈ xs → x ∈ ys) → length xs ≤ length ys
+no-more-than xs ys u h =
     no-longer (λ x y. x ≡ y) xs ys (λ x m. (x, h x m, refl))
     (λ i j x z y l a b d e. (let same = unrepeated-at xs u i j (a ∙ ap some (d ∙ sym e)) b in omega arith))
 
 pub same-count : {X : Type 0} (xs ys : List X) → Unrepeated xs → Unrepeated ys → ((x : X) → (x ∈ xs) ↔ (x ∈ ys)) → length xs ≡ length ys
 same-count xs ys u v h =
-    let a : length xs ≤ length ys = within xs ys u (λ x. h x .0) in
-    let b : length ys ≤ length xs = within ys xs v (λ x. h x .1) in
+    let a : length xs ≤ length ys = no-more-than xs ys u (λ x. h x .0) in
+    let b : length ys ≤ length xs = no-more-than ys xs v (λ x. h x .1) in
     omega arith

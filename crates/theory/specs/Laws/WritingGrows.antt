@@ -108,8 +108,8 @@ appendedAll-covers u (x ∷ xs) (List·Memᴰ·tail n) = appendedAll-covers (app
 
 module _ (rules : List Rule) (q : Query) where
   -- the step of m, made from this union, gives m's question
-  abbrev pub Fits : UCQ → Member → Type 0
-  Fits u m = Yields rules u (length u) (m .step) (m .query)
+  abbrev pub StepFits : UCQ → Member → Type 0
+  StepFits u m = Yields rules u (length u) (m .step) (m .query)
 
   pub record Kept (u : UCQ) : Type 0 where
     pub first : At u 0 (record { step = noStep; query = q })
@@ -119,10 +119,10 @@ module _ (rules : List Rule) (q : Query) where
   yields-extends : (u v : UCQ) (j k : ℕ) (s : Step) (r : Query) → Extends u v → j ≤ k → Yields rules u j s r → Yields rules v k s r
   yields-extends u v j k s r x l y = (let h = y .0 in omega arith, y .1, extends-at u v x (s .parent) (y .2), y .3)
 
-  fits-extends : (u v : UCQ) (m : Member) → Extends u v → Fits u m → Fits v m
+  fits-extends : (u v : UCQ) (m : Member) → Extends u v → StepFits u m → StepFits v m
   fits-extends u v m x y = yields-extends u v (length u) (length v) (m .step) (m .query) x (extends-length u v x) y
 
-  kept-new : (u : UCQ) (m : Member) → Kept u → Fits u m → (¬ AlikeIn (m .query) u) → Kept (u ++ (m ∷ []))
+  kept-new : (u : UCQ) (m : Member) → Kept u → StepFits u m → (¬ AlikeIn (m .query) u) → Kept (u ++ (m ∷ []))
   kept-new u m k fits new = record {
     first = at-append u (m ∷ []) 0 (k .first);
     own-step = λ j n l e. elim (at-snoc u m j e) [
@@ -142,14 +142,14 @@ module _ (rules : List Rule) (q : Query) where
     ];
   }
 
-  appended-kept : (u : UCQ) (m : Member) → Kept u → Fits u m → Kept (appended u m)
+  appended-kept : (u : UCQ) (m : Member) → Kept u → StepFits u m → Kept (appended u m)
   appended-kept u m k fits =
       elim (alike-or-new u m) [
         | inl w ↦ subst Kept (sym (appended-alike u m w)) k
         | inr f ↦ subst Kept (sym (appended-unlike u m f)) (kept-new u m k fits f)
       ]
 
-  appendedAll-kept : (u : UCQ) (ms : List Member) → Kept u → ((m : Member) → m ∈ ms → Fits u m) → Kept (appendedAll u ms)
+  appendedAll-kept : (u : UCQ) (ms : List Member) → Kept u → ((m : Member) → m ∈ ms → StepFits u m) → Kept (appendedAll u ms)
   unfolding appendedAll
   appendedAll-kept u [] k h = k
   appendedAll-kept u (m ∷ ms) k h =
@@ -167,19 +167,19 @@ module _ (rules : List Rule) (q : Query) where
 
   -- what stands beside a result of member k's steps gives that result
   module _ (u : UCQ) (k : ℕ) (p : Member) (at : At u k p) where
-    rule-fits : (i j : ℕ) {m : Member} → m ∈ byRule rules k (p .query) i j → Fits u m
+    rule-fits : (i j : ℕ) {m : Member} → m ∈ byRule rules k (p .query) i j → StepFits u m
     unfolding byRule
     rule-fits i j {m} n =
         let w = stepped-found record { kind = 1; parent = k; atom = i; other = j } (ruleStep rules (p .query) i j) n in
         subst (λ (s : Step). Yields rules u (length u) s (m .query)) (sym (w .0)) (at-lt u k at, p, at, inl (refl, w .1))
 
-    merge-fits : (i j : ℕ) {m : Member} → m ∈ byMerge k (p .query) i j → Fits u m
+    merge-fits : (i j : ℕ) {m : Member} → m ∈ byMerge k (p .query) i j → StepFits u m
     unfolding byMerge
     merge-fits i j {m} n =
         let w = stepped-found record { kind = 2; parent = k; atom = i; other = j } (mergeStep (p .query) i j) n in
         subst (λ (s : Step). Yields rules u (length u) s (m .query)) (sym (w .0)) (at-lt u k at, p, at, inr (refl, w .1))
 
-    pub steps-fit : (m : Member) → m ∈ stepsFrom rules k (p .query) → Fits u m
+    pub steps-fit : (m : Member) → m ∈ stepsFrom rules k (p .query) → StepFits u m
     unfolding stepsFrom
     steps-fit m n =
         let indices : List ℕ = numbers 0 (length (p .query .atoms)) in
