@@ -9,12 +9,14 @@ use mathlib.Core.List.{List, [], _∷_, _++_, append-assoc}
 use lib.Dec.{T, ltb}
 use lib.ListN.{length, take, drop, replicate, length-append}
 use lib.Seq.{take-append-seam, drop-append-seam}
-use Rattle.theory.specs.Lists.{all, guard}
+use Rattle.theory.specs.Lists.{_∈_, all, guard}
 use Rattle.theory.specs.Refusals.{firstRefusal, First, NoneHolds}
 use Rattle.theory.specs.Chase.{FirstReader, SecondReader}
-use Rattle.theory.specs.Union.{Accepted, SoundQuery}
+use Rattle.theory.specs.Syntax.{Member}
+use Rattle.theory.specs.Union.{Accepted, SoundQuery, SoundUnion}
 use Rattle.theory.specs.Laws.Options.{some-inj, none≢some}
-use Rattle.theory.specs.Laws.Writing.{written-accepted, more-than-iff}
+use Rattle.theory.specs.Laws.WritingGrows.{AlikeIn}
+use Rattle.theory.specs.Laws.Writing.{each-in-other, equally-many, written-accepted, more-than-iff}
 use Rattle.words.specs.Limits.{sheetWidth, mostMembers, mostUnionBytes}
 use Rattle.sheets.specs.Format.{termCount}
 use Rattle.sheets.specs.Partners.{partners01}
@@ -25,13 +27,13 @@ use Rattle.sheets.specs.Laws.Tests.{ltb-tells, lt-or-le}
 use Rattle.sheets.specs.Laws.PartnerLaws.{partners01-involutive}
 use Rattle.sheets.specs.Laws.QuestionRefusals.{question-arity}
 use Rattle.sheets.specs.Laws.OneList.{orElse-none, one-none, number-zero, rules-only, rules-and-question, question-and-union, unionRefusals}
-use Rattle.sheets.specs.Laws.OneList.{refused-iff, passed-iff}
+use Rattle.sheets.specs.Laws.OneList.{checked-accepted, refused-iff, passed-iff}
 use Rattle.sheets.specs.Laws.PackingSheets.{whole-sheet}
 use Rattle.sheets.specs.Laws.StepsInRange.{RuleStands, AtomStands, rules-read-in, question-read-in, rules-read-stand, question-read-stands}
 use Rattle.sheets.specs.Laws.StepsInRange.{rules-unrefused, question-unrefused, sound-question}
 use Rattle.sheets.specs.Laws.WrittenUnion.{written-in-range, packed-union-length, written-reads, written-passes6}
 use Rattle.promises.specs.TheSheets.{theRules, theQuestion, theUnion, theFacts, theRefusal, theConditions, SoundFacts}
-use Rattle.promises.specs.Checking.{sheetsOf, checkNumber, SoundAndAccepted}
+use Rattle.promises.specs.Checking.{sheetsOf, checkNumber, AcceptedFor, SoundAndAccepted}
 use Rattle.promises.specs.Drawing.{bytesNeeded, termsOf, Registered, Listed, Drawn}
 use Rattle.promises.specs.Writing.{WriteOutcome, writeOutcomeBy, twoSheets, SoundToWrite, theWritten, TooMany, unionBytes}
 use Rattle.promises.specs.Writing.{refusalToWrite, writeConditions, writeOutcome, UnionWritten}
@@ -381,6 +383,25 @@ module _ (rules question : List ℕ) (room number count size : ℕ) (sheet : Lis
     pub written-readers-agree : (facts : List ℕ) → SoundFacts facts → (tuple : List ℕ)
         → FirstReader (theUnion union) (theFacts facts) tuple ↔ SecondReader (theRules rules) (theQuestion question) (theFacts facts) tuple
     written-readers-agree = both-readers-agree rules question union (zero-accepts rules question union .0 check-gives-0)
+
+    -- Whatever union others made for the same rules and question, if it is accepted it has as many members, each alike to one of ours.
+    module _ (other : List ℕ) (accepted : AcceptedFor rules question other) where
+      theirs : SoundUnion (theQuestion question) (theUnion other) × Accepted (theRules rules) (theQuestion question) (theUnion other)
+      theirs = checked-accepted partners01 sheetWidth (sheetsOf rules question other) accepted
+
+      ours : SoundUnion (theQuestion question) (theUnion union) × Accepted (theRules rules) (theQuestion question) (theUnion union)
+      ours = checked-accepted partners01 sheetWidth (sheetsOf rules question union) (zero-accepts rules question union .0 check-gives-0)
+
+      pub as-many-members : length (theUnion other) ≡ count
+      as-many-members =
+          equally-many (theRules rules) (theQuestion question) (theUnion other) (theUnion union) (theirs .1) (ours .1)
+          (λ m n. theirs .0 m n .distinct) (λ m n. ours .0 m n .distinct)
+          ∙ sym (written .reads zero .1)
+
+      pub each-alike-to-ours : (m : Member) → m ∈ theUnion other → AlikeIn (m .query) (theUnion union)
+      each-alike-to-ours =
+          each-in-other (theRules rules) (theQuestion question) (theUnion other) (theUnion union) (theirs .1) (ours .1)
+          (λ m n. theirs .0 m n .distinct) (λ m n. ours .0 m n .distinct)
 
     -- Drawing with it: never refused for anything but the length of the list, and then the list has exactly what the second reader finds.
     module _ (facts : List ℕ) (sound : SoundFacts facts) (list-room : ℕ) (drawn-number drawn-count : ℕ) (list : List ℕ)

@@ -10,7 +10,7 @@ use lib.Dec.{T}
 use lib.ListN.{length, length-append}
 use Rattle.theory.specs.Lists.{_∈_, At}
 use Rattle.theory.specs.Syntax.{Rule, Query, Member, UCQ}
-use Rattle.theory.specs.Union.{SoundQuery, SoundUnion}
+use Rattle.theory.specs.Union.{SoundQuery}
 use Rattle.theory.specs.Writing.{writtenUnion}
 use Rattle.theory.specs.Laws.Lists.{here, map-agree, at-mem, mem-at, at-lt, at-equal}
 use Rattle.theory.specs.Laws.Steps.{ruleStep-iff, mergeStep-iff}
@@ -116,9 +116,6 @@ module _ (partners : List ℕ) (w : ℕ) (rules : List Rule) (q : Query) (rules-
       ]
 
   -- ---- the union
-
-  pub written-sound-union : SoundUnion q union
-  written-sound-union m n = written-sound m n
 
   pub written-in-range : length union ≤ mostMembers → UnionInRange w union
   written-in-range few = (

@@ -382,16 +382,6 @@ module _ (IsConcept IsRole : ℕ → Type 0) where
   LeftOf (conceptInclusion left right) = BasicOf left
   LeftOf (roleInclusion left exchanged right) = IsRole left
 
-  -- what holds of every name
-  basic-any : ((n : ℕ) → IsConcept n) → ((n : ℕ) → IsRole n) → (B : Basic) → BasicOf B
-  basic-any c h (named A) = c A
-  basic-any c h (has P) = h P
-  basic-any c h (hasInverse P) = h P
-
-  pub left-any : ((n : ℕ) → IsConcept n) → ((n : ℕ) → IsRole n) → (r : Rule) → LeftOf r
-  left-any c h (conceptInclusion left right) = basic-any c h left
-  left-any c h (roleInclusion left exchanged right) = h left
-
   -- an atom with such a name over terms of which something holds
   module _ (IsTerm : Term → Type 0) where
     abbrev pub AtomOf : Atom Term → Type 0

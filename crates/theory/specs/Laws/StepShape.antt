@@ -1,22 +1,22 @@
 -- What every step keeps. The result has no atom twice, as many answer terms, no more atoms and at least one, and every answer variable
--- in an atom. Its terms are those of the query and the fresh variable, its names those of the query and of the rules' left sides.
+-- in an atom. Whatever holds of its terms and the fresh variable, and of its names and those of the rules' left sides, still holds.
 use mathlib.Core.Path.{_≡_, refl, sym, ap, _∙_, subst}
-use mathlib.Core.Logic.{_⊎_, inl, inr}
+use mathlib.Core.Logic.{inl, inr}
 use Prim.Native.Nat.{ℕ, _≤_}
 use native.Mathlib.Decide.{ℕ-discrete}
 use mathlib.Core.Option.{some}
-use mathlib.Core.List.{List, map, List·Memᴰ·tail, List·Memᴰ·not-nil, Memᴰ·of-map}
+use mathlib.Core.List.{List, map, List·Memᴰ·not-nil, Memᴰ·of-map}
 use lib.ListN.{length, set, length-map, length-set}
 use Rattle.theory.specs.Lists.{_∈_, At, Unrepeated}
 use Rattle.theory.specs.Syntax.{Term, var, Atom, concept, role, Rule, Query, args, terms, mapAtom, subst-term, sameAtom}
 use Rattle.theory.specs.Rewriting.{fresh, rewriteAtom, unify, keepOnce, changeAtom, substitute, StepTo}
 use Rattle.theory.specs.Union.{Safe, SoundQuery}
-use Rattle.theory.specs.Laws.Lists.{here, forall-cons, at-mem, mem-at, at-equal, set-at, set-elsewhere, once-few, once-some}
+use Rattle.theory.specs.Laws.Lists.{forall-cons, at-mem, mem-at, at-equal, set-at, set-elsewhere, once-few, once-some}
 use Rattle.theory.specs.Laws.Syntax.{only-var, map-args, places-mem, mem-places, terms-atoms, terms-answers, terms-cases}
 use Rattle.theory.specs.Laws.Syntax.{keepOnce-mem, mem-keepOnce, keepOnce-unrepeated, substitute-mem, mem-substitute}
 use Rattle.theory.specs.Laws.Unifier.{unify-keeps}
 use Rattle.theory.specs.Laws.Steps.{ruleStep-iff, mergeStep-iff}
-use Rattle.theory.specs.Laws.Rules.{AtomOf, LeftOf, left-any, rewrite-keeps, rewrite-answer}
+use Rattle.theory.specs.Laws.Rules.{AtomOf, LeftOf, rewrite-keeps, rewrite-answer}
 
 -- What holds of what each kind of step gives holds of the result of every step.
 pub step-by : (P : Query → Type 0) (rules : List Rule) (q r : Query) → StepTo rules q r
@@ -122,10 +122,6 @@ step-answers-keep IsTerm rules q r h step =
     let (s, l, d) = Memᴰ·of-map (subst-term σ) (q .answers) k in
     subst IsTerm d (unify-keeps IsTerm a b e (λ t k. h t (terms-atoms q m k)) (λ t k. h t (terms-atoms q n k)) s (h s (terms-answers q l))))
 
--- every answer term of the result is a term of the query
-pub step-answers : (rules : List Rule) (q r : Query) → StepTo rules q r → (t : Term) → t ∈ r .answers → t ∈ terms q
-step-answers rules q r step = step-answers-keep (λ t. t ∈ terms q) rules q r (λ t m. m) step
-
 module _ (IsConcept IsRole : ℕ → Type 0) (IsTerm : Term → Type 0) where
   -- something holds of all names and all terms of a query
   abbrev pub QueryOf : Query → Type 0
@@ -168,20 +164,3 @@ module _ (IsConcept IsRole : ℕ → Type 0) (IsTerm : Term → Type 0) where
         subst (AtomOf IsConcept IsRole IsTerm) f
         (mapped-atom (subst-term σ) d (unify-keeps IsTerm a b e (atom-terms a (h .1 a m)) (atom-terms b (h .1 b n))) (h .1 d l))),
   )
-
--- every term of the result is a term of the query or the fresh variable
-abbrev Any : ℕ → Type 0
-Any n = Unit {0}
-
-abbrev Old : Query → Term → Type 0
-Old q t = (t ≡ var (fresh q)) ⊎ (t ∈ terms q)
-
-atoms-old : (q : Query) (a : Atom Term) → a ∈ q .atoms → AtomOf Any Any (Old q) a
-atoms-old q (concept A t) m = (tt, inr (terms-atoms q m here))
-atoms-old q (role P t u) m = (tt, inr (terms-atoms q m here), inr (terms-atoms q m (List·Memᴰ·tail here)))
-
-pub step-terms : (rules : List Rule) (q r : Query) → StepTo rules q r → (t : Term) → t ∈ terms r → (t ≡ var (fresh q)) ⊎ (t ∈ terms q)
-step-terms rules q r step =
-    query-terms Any Any (Old q) r
-    (step-keeps Any Any (Old q) rules q r (λ rule m. left-any Any Any (λ n. tt) (λ n. tt) rule) (inl refl)
-    (λ t m. inr (terms-answers q m), atoms-old q) step)
