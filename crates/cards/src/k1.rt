@@ -1,5 +1,5 @@
 // Cards K9 to K12 of 01: K1 with one thing changed.
-use crate::lines::drawn;
+use card_lines::drawn;
 ghost use mathlib.Core.Path.{_≡_};
 ghost use lib.ListN.{length};
 

@@ -1,5 +1,5 @@
 // Cards K1, K3, K5 and K6 of 01, written (02, T-02, "Our own unions").
-use crate::lines::written;
+use card_lines::written;
 
 // The cards.
 pub fn run() {

@@ -1,8 +1,8 @@
 use Prim.Native.Nat.{_-_}
 use lib.ListN.{length}
 use borrow.Author.Needs.{needs}
-use Rattle.cards.proofs.lines.print_bytes.Statement.{statement}
-use Rattle.cards.proofs.lines.print_bytes.Tie as tie
+use Rattle.card_lines.proofs.print_bytes.Statement.{statement}
+use Rattle.card_lines.proofs.print_bytes.Tie as tie
 
 -- nothing has to hold from turn to turn
 abbrev Inv-loop : tie.InvT-loop

@@ -1,7 +1,7 @@
 use lib.Seq.{length-take-le}
 use borrow.Author.Needs.{needs}
-use Rattle.cards.proofs.lines.print_beginning.Statement.{statement}
-use Rattle.cards.proofs.lines.print_beginning.Tie as tie
+use Rattle.card_lines.proofs.print_beginning.Statement.{statement}
+use Rattle.card_lines.proofs.print_beginning.Tie as tie
 
 pub print-beginning-spec : {M : Type 1} → statement M
 print-beginning-spec =

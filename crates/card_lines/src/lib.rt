@@ -1,4 +1,4 @@
-// One line for a call: its name, and all that it gave.
+// What the programs that run cards print: one line for a call, with its name and all that it gave.
 use answering::answer;
 use answering::check;
 use libc::STDOUT_FILENO;
