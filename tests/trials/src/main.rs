@@ -2,6 +2,7 @@
 //! if too few of the cases were of the kinds that matter. Arguments: seed and number of cases.
 
 mod lent;
+mod near_counts;
 mod tally;
 mod writing;
 
@@ -16,6 +17,8 @@ const SEED: u64 = 20_070_713;
 const CASES: u64 = 24_000;
 /// One in so many cases has a second one beside it: rules and a question that lead to many unlike questions.
 const ONE_OF_MANY_IN: u64 = 100;
+/// One in so many has a near miss beside it, and a needed fact at some place.
+const ONE_NEAR_MISS_IN: u64 = 12;
 /// Differences that are printed before the run is given up.
 const MOST_DIFFERENCES: usize = 10;
 
@@ -88,6 +91,9 @@ fn run(seed: u64, cases: u64) -> bool {
         if case % ONE_OF_MANY_IN == 0 {
             let sheets = sheets_of_many(case / ONE_OF_MANY_IN, &mut chance);
             tally.compare_write(&format!("case {case}, many members"), &sheets, &mut chance);
+        }
+        if case % ONE_NEAR_MISS_IN == 0 {
+            tally.compare_near(&format!("case {case}"), case / ONE_NEAR_MISS_IN, &mut chance);
         }
         if tally.differences >= MOST_DIFFERENCES {
             println!("given up after {} cases", case + 1);

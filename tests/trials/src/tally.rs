@@ -1,7 +1,8 @@
 //! Calls the library and compares what it does with what the second implementation expects; counts what kinds of cases were met.
-//! Writing has a file of its own.
+//! Writing and near misses have files of their own.
 
 use crate::lent::Lent;
+use crate::near_counts::NearCounts;
 use crate::writing::Writings;
 use trials::chance::Chance;
 use trials::refusals::{self, check, draw, Drawn, Outcome, Sheets};
@@ -28,6 +29,7 @@ pub struct Tally {
     most_members: usize,
     most_answers: usize,
     pub writings: Writings,
+    pub near: NearCounts,
     pub differences: usize,
 }
 
@@ -57,9 +59,21 @@ impl Tally {
 
     /// Number, count and all bytes of a list that was full of other bytes, and nothing written beside it.
     pub fn compare_answer(&mut self, name: &str, sheets: &Sheets, expected: &Outcome, chance: &mut Chance) {
+        self.compare_answer_by(library::answer, name, sheets, expected, chance);
+    }
+
+    /// The same of whatever stands for the library.
+    pub fn compare_answer_by(
+        &mut self,
+        answer: impl Fn(&Sheets, &mut [u8]) -> (u32, u64),
+        name: &str,
+        sheets: &Sheets,
+        expected: &Outcome,
+        chance: &mut Chance,
+    ) {
         let length = expected.list.len();
         let mut lent = Lent::new(length, chance);
-        let (number, count) = library::answer(sheets, lent.part());
+        let (number, count) = answer(sheets, lent.part());
         self.calls += 1;
         let what = format!("answer, list of {length}");
         let got = Outcome {
@@ -189,6 +203,10 @@ impl Tally {
             "unions written and drawn with from no facts: {}",
             self.writings.no_facts
         );
+        println!(
+            "near misses and needed facts that chance did not give: {}",
+            self.near.not_given
+        );
         let mut enough = true;
         let mut count = |what: &str, got: u64, least: u64| {
             println!("{what}: {got} (at least {least})");
@@ -223,7 +241,7 @@ impl Tally {
             self.need_lost_tag,
             100,
         );
-        for (what, got, least) in self.writings.counts() {
+        for (what, got, least) in self.writings.counts().into_iter().chain(self.near.counts()) {
             count(&what, got, least);
         }
         println!("differences: {}", self.differences);
