@@ -18,7 +18,7 @@ const CASES: u64 = 24_000;
 /// One in so many cases has a second one beside it: rules and a question that lead to many unlike questions.
 const ONE_OF_MANY_IN: u64 = 100;
 /// One in so many has a near miss beside it, and a needed fact at some place.
-const ONE_NEAR_MISS_IN: u64 = 12;
+const ONE_NEAR_MISS_IN: u64 = 5;
 /// Differences that are printed before the run is given up.
 const MOST_DIFFERENCES: usize = 10;
 

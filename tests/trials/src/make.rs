@@ -297,19 +297,37 @@ pub fn plan(chance: &mut Chance) -> (Names, Vec<Rule>, Question) {
     (names, rules, question)
 }
 
+/// Sheets that are accepted, with these rules and this question; none if the union has more than `most` members.
+fn closed((names, rules, question): (Names, Vec<Rule>, Question), most: usize, chance: &mut Chance) -> Option<Draft> {
+    let members = union(&question, &rules, most, chance)?;
+    let facts = some_facts(&names, &members, chance);
+    Some(Draft {
+        rules,
+        question,
+        members,
+        facts,
+    })
+}
+
 /// Sheets that are accepted.
 pub fn draft(chance: &mut Chance) -> Draft {
     loop {
-        let (names, rules, question) = plan(chance);
+        let plan = plan(chance);
         let most = if chance.one_in(40) { MOST_MEMBERS } else { 48 };
-        if let Some(members) = union(&question, &rules, most, chance) {
-            let facts = some_facts(&names, &members, chance);
-            return Draft {
-                rules,
-                question,
-                members,
-                facts,
-            };
+        if let Some(draft) = closed(plan, most, chance) {
+            return draft;
+        }
+    }
+}
+
+/// Sheets that are accepted, with at most so many atoms in a question and so many members.
+pub fn small_draft(most_atoms: usize, most_members: usize, chance: &mut Chance) -> Draft {
+    loop {
+        let plan = plan(chance);
+        if plan.2.atoms.len() <= most_atoms {
+            if let Some(draft) = closed(plan, most_members, chance) {
+                return draft;
+            }
         }
     }
 }

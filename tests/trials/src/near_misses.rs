@@ -5,13 +5,13 @@ use crate::chance::Chance;
 use crate::make;
 use crate::refusals::by_rounds;
 use crate::scan::{self, Fault, FIRST, SECOND};
-use crate::sheets::{Fact, Question};
+use crate::sheets::Fact;
 use crate::write::Draft;
 use std::collections::BTreeSet;
 
 /// Few and short, so that a plain scan through all of them takes no time.
 const MOST_ATOMS: usize = 4;
-const MOST_MEMBERS: usize = 24;
+const MOST_MEMBERS: usize = 16;
 const MOST_THINGS: usize = 400;
 const MOST_FACTS: usize = 10_000;
 
@@ -24,55 +24,40 @@ pub struct Case {
     pub answers: BTreeSet<Vec<u16>>,
 }
 
-impl Case {
-    /// None if the rounds take too many things.
-    fn new(draft: Draft) -> Option<Case> {
-        let answers = by_rounds(&draft.rules, &draft.question, &draft.facts, MOST_THINGS)?;
-        Some(Case { draft, answers })
-    }
+/// What a scan with this fault finds in these facts.
+fn found(draft: &Draft, facts: &[Fact], fault: Option<Fault>) -> BTreeSet<Vec<u16>> {
+    scan::answers(facts, draft.members.iter().map(|(_, question)| question), fault)
+}
 
-    /// A small draft by chance that has an answer.
-    fn by_chance(chance: &mut Chance) -> Case {
-        loop {
-            let draft = make::draft(chance);
-            let small = draft.question.atoms.len() <= MOST_ATOMS && draft.members.len() <= MOST_MEMBERS;
-            if let Some(case) = small.then_some(draft).and_then(Case::new) {
-                if !case.answers.is_empty() {
-                    return case;
-                }
-            }
+/// The answers from these facts by the rounds; none if that takes too many things.
+fn answers(draft: &Draft, facts: &[Fact]) -> Option<BTreeSet<Vec<u16>>> {
+    by_rounds(&draft.rules, &draft.question, facts, MOST_THINGS)
+}
+
+fn without(facts: &[Fact], at: usize) -> Vec<Fact> {
+    [&facts[..at], &facts[at + 1..]].concat()
+}
+
+/// Whether other answers than these come without the fact at this place.
+fn needs(draft: &Draft, at: usize, all: &BTreeSet<Vec<u16>>) -> bool {
+    answers(draft, &without(&draft.facts, at)).is_some_and(|fewer| fewer != *all)
+}
+
+/// A small draft by chance that has an answer.
+fn by_chance(chance: &mut Chance) -> Draft {
+    loop {
+        let draft = make::small_draft(MOST_ATOMS, MOST_MEMBERS, chance);
+        if !found(&draft, &draft.facts, None).is_empty() {
+            return draft;
         }
     }
+}
 
-    fn with_facts(&self, facts: Vec<Fact>) -> Option<Case> {
-        Case::new(Draft {
-            facts,
-            ..self.draft.clone()
-        })
-    }
-
-    /// Whether other answers come without the fact at this place.
-    fn needs(&self, at: usize) -> bool {
-        let mut facts = self.draft.facts.clone();
-        facts.remove(at);
-        self.with_facts(facts).is_some_and(|case| case.answers != self.answers)
-    }
-
-    /// The places of the facts, in an order by chance.
-    fn places(&self, chance: &mut Chance) -> Vec<usize> {
-        let mut places = Vec::from_iter(0..self.draft.facts.len());
-        chance.shuffle(&mut places);
-        places
-    }
-
-    fn questions(&self) -> impl Iterator<Item = &Question> {
-        self.draft.members.iter().map(|(_, question)| question)
-    }
-
-    fn any_object(&self, chance: &mut Chance) -> u64 {
-        let objects: Vec<u16> = self.draft.facts.iter().flat_map(|fact| fact.terms()).collect();
-        u64::from(chance.of(&objects))
-    }
+/// The places of the facts, in an order by chance.
+fn places(draft: &Draft, chance: &mut Chance) -> Vec<usize> {
+    let mut places = Vec::from_iter(0..draft.facts.len());
+    chance.shuffle(&mut places);
+    places
 }
 
 /// What becomes of a needed fact.
@@ -90,42 +75,46 @@ fn neighbour(fact: Fact, bit: u32) -> Option<Fact> {
 }
 
 /// The same, but objects in which the bit does not stand are others at times: whoever does not see the bit finds more than before.
-fn odd_neighbour(case: &Case, fact: Fact, bit: u32, chance: &mut Chance) -> Option<Fact> {
+fn odd_neighbour(facts: &[Fact], fact: Fact, bit: u32, chance: &mut Chance) -> Option<Fact> {
+    let mut objects: Vec<u16> = facts.iter().flat_map(|fact| fact.terms()).collect();
+    objects.extend([77, 7_777]);
     let mut word = scan::word(fact) ^ 1 << bit;
     for field in [FIRST, SECOND] {
         if !field.contains(&bit) && chance.one_in(2) {
-            word = word & !scan::ones(field.clone()) | case.any_object(chance) << field.start;
+            word = word & !scan::ones(field.clone()) | u64::from(chance.of(&objects)) << field.start;
         }
     }
     // a concept has no second object
     scan::fact(word).or_else(|| scan::fact(word & !scan::ones(SECOND)))
 }
 
-/// The case with a neighbour of the fact at this place; none if there is none, or if a scan with the fault finds all answers and no more.
-fn turned(case: &Case, at: usize, way: Way, fault: Fault, chance: &mut Chance) -> Option<Case> {
-    let mut facts = case.draft.facts.clone();
+/// The facts with a neighbour of the one at this place; none if there is none, or if a scan with the fault finds what it should.
+fn turned(draft: &Draft, at: usize, way: Way, fault: Fault, chance: &mut Chance) -> Option<Vec<Fact>> {
+    let mut facts = draft.facts.clone();
     let fact = facts[at];
     match way {
         Way::InPlace => facts[at] = neighbour(fact, fault.bit)?,
-        Way::Beside => facts.insert(at + chance.below(2), odd_neighbour(case, fact, fault.bit, chance)?),
+        Way::Beside => facts.insert(
+            at + chance.below(2),
+            odd_neighbour(&draft.facts, fact, fault.bit, chance)?,
+        ),
     }
-    let found = scan::answers(&facts, case.questions(), Some(fault));
-    // quickly first: most neighbours change nothing
-    if found == scan::answers(&facts, case.questions(), None) {
-        return None;
-    }
-    case.with_facts(facts).filter(|turned| turned.answers != found)
+    (found(draft, &facts, Some(fault)) != found(draft, &facts, None)).then_some(facts)
 }
 
 /// A case in which a needed fact has a neighbour by the bit of the fault, and a scan with the fault finds other answers than there are.
 pub fn near_miss(way: Way, fault: Fault, chance: &mut Chance) -> Option<Case> {
     (0..TRIES).find_map(|_| {
-        let case = Case::by_chance(chance);
-        let places = case.places(chance);
-        places.into_iter().find_map(|at| {
-            let turned = turned(&case, at, way, fault, chance)?;
-            case.needs(at).then_some(turned)
-        })
+        let mut draft = by_chance(chance);
+        let (facts, answers) = places(&draft, chance).into_iter().find_map(|at| {
+            let facts = turned(&draft, at, way, fault, chance)?;
+            let all = answers(&draft, &draft.facts)?;
+            let answers = answers(&draft, &facts)?;
+            let counts = answers != found(&draft, &facts, Some(fault)) && needs(&draft, at, &all);
+            counts.then_some((facts, answers))
+        })?;
+        draft.facts = facts;
+        Some(Case { draft, answers })
     })
 }
 
@@ -163,28 +152,53 @@ fn pad(facts: &mut Vec<Fact>, like: Fact, many: usize, full: bool, chance: &mut 
     }
 }
 
-/// A case in which a needed fact stands there, and whether one next to it has the same predicate and is needed too. A full sheet has as many
-/// facts as it may have in this spot.
+/// A case in which a needed fact stands there, and whether one next to it has the same predicate and is needed too. A full sheet has as
+/// many facts as it may have in this spot.
 pub fn placed(spot: Spot, full: bool, chance: &mut Chance) -> Option<(Case, bool)> {
     (0..TRIES).find_map(|_| {
-        let case = Case::by_chance(chance);
-        let at = case.places(chance).into_iter().find(|&at| case.needs(at))?;
-        let mut facts = case.draft.facts.clone();
-        let fact = facts.remove(at);
-        let length = spot.length(facts.len(), full, chance);
-        pad(&mut facts, fact, length - 1, full, chance);
-        chance.shuffle(&mut facts);
+        let mut draft = by_chance(chance);
+        let all = found(&draft, &draft.facts, None);
+        let mut places = places(&draft, chance).into_iter();
+        let at = places.find(|&at| found(&draft, &without(&draft.facts, at), None) != all)?;
+        let fact = draft.facts.remove(at);
+        let length = spot.length(draft.facts.len(), full, chance);
+        pad(&mut draft.facts, fact, length - 1, full, chance);
+        chance.shuffle(&mut draft.facts);
         let at = spot.from_end.map_or(0, |from_end| length - 1 - from_end);
-        facts.insert(at, fact);
-        let placed = case.with_facts(facts).filter(|placed| placed.needs(at))?;
-        let twin = has_needed_twin(&placed, at);
-        Some((placed, twin))
+        draft.facts.insert(at, fact);
+        let answers = answers(&draft, &draft.facts).filter(|all| needs(&draft, at, all))?;
+        let twin = has_needed_twin(&draft, at, &answers);
+        Some((Case { draft, answers }, twin))
     })
 }
 
-fn has_needed_twin(case: &Case, at: usize) -> bool {
-    let predicate = |at: usize| case.draft.facts.get(at).map(|&fact| scan::word(fact) >> FIRST.end);
+/// Whether a fact next to this place has the same predicate as the one there, and is needed.
+fn has_needed_twin(draft: &Draft, at: usize, all: &BTreeSet<Vec<u16>>) -> bool {
+    let predicate = |at: usize| draft.facts.get(at).map(|&fact| scan::word(fact) >> FIRST.end);
     [at.wrapping_sub(1), at + 1]
         .into_iter()
-        .any(|beside| predicate(beside) == predicate(at) && case.needs(beside))
+        .any(|beside| predicate(beside) == predicate(at) && needs(draft, beside, all))
+}
+
+#[cfg(test)]
+mod tests {
+    use super::*;
+    use crate::sheets::Atom;
+
+    /// How many facts are one bit beside this one.
+    fn neighbours(fact: Fact) -> usize {
+        (0..64).filter_map(|bit| neighbour(fact, bit)).count()
+    }
+
+    #[test]
+    fn neighbours_are_sound_and_as_read() {
+        // kind, number and objects; the kind only if the second object is zero
+        assert_eq!(neighbours(Atom::Role(16, 5, 0)), 1 + 12 + 16 + 16);
+        assert_eq!(neighbours(Atom::Role(16, 5, 7)), 12 + 16 + 16);
+        assert_eq!(neighbours(Atom::Concept(16, 5)), 1 + 12 + 16);
+        // role 1 is read as role 0
+        assert_eq!(neighbours(Atom::Role(0, 5, 7)), 11 + 16 + 16);
+        assert_eq!(neighbour(Atom::Concept(16, 5), 47), Some(Atom::Role(16, 5, 0)));
+        assert_eq!(neighbour(Atom::Role(16, 5, 7), 0), Some(Atom::Role(16, 5, 6)));
+    }
 }
