@@ -77,6 +77,7 @@ fn neighbour(fact: Fact, bit: u32) -> Option<Fact> {
 /// The same, but objects in which the bit does not stand are others at times: whoever does not see the bit finds more than before.
 fn odd_neighbour(facts: &[Fact], fact: Fact, bit: u32, chance: &mut Chance) -> Option<Fact> {
     let mut objects: Vec<u16> = facts.iter().flat_map(|fact| fact.terms()).collect();
+    // two more that no draft has: what is found with them is new
     objects.extend([77, 7_777]);
     let mut word = scan::word(fact) ^ 1 << bit;
     for field in [FIRST, SECOND] {
