@@ -9,6 +9,8 @@ use Rattle.theory.specs.Lists.{_∈_}
 use Rattle.theory.specs.Syntax.{const, Member, Rule, Query, UCQ}
 use Rattle.theory.specs.Evaluation.{answersOf}
 use Rattle.theory.specs.Laws.Lists.{mem-along}
+use Rattle.words.specs.FactWords.{ZeroBits}
+use Rattle.words.specs.Laws.FactHeads.{zero-bits}
 use Rattle.words.specs.Limits.{sheetWidth, objectBound, mostFacts}
 use Rattle.words.specs.Words.{unionIn, factsIn, Small}
 use Rattle.words.specs.Rows.{Rows, Arity}
@@ -50,6 +52,10 @@ module _ (p s words : List ℕ) (number count : ℕ) (read : FactsRead p s words
   pub facts-within : (size : ℕ) → length words ≡ size → size ≡ mostFacts → count ≤ length words
   facts-within size e d = let l : count ≤ mostFacts = read .sheet .few in omega arith
 
+  -- bit for bit, so that they can be compared a word at a time
+  pub zeros-there : ZeroBits words count
+  zeros-there = zero-bits words count (read .words)
+
   module _ (zero : number ≡ 0) where
     pub found-in-range : (table : List ℕ) (n : ℕ) → Constants table n → TuplesInRange (factsIn words count) (unionIn table n)
     found-in-range table n members =
@@ -86,6 +92,6 @@ module _ (p : List ℕ) (rules : List Rule) (q : Query) (terms : ℕ) (s table :
       goes-on room (answersOf (factsAsRead p sheetWidth facts) (unionAsRead p sheetWidth s)) number (unionNumber p rules q terms s) _ r list
       (read .number-is) zero (subst (λ u. GivesFromFacts p facts u terms room r list) (read .union-is zero) g)
 
-pub ruleset factLaws = (needs, rows-there, arity-there, constants-there, facts-refused, facts-within, found-in-range, facts-pass)
+pub ruleset factLaws = (needs, rows-there, arity-there, constants-there, facts-refused, facts-within, zeros-there, found-in-range, facts-pass)
 
 pub ruleset unionLaws = (needs, terms-few, members-there, union-refused, union-passes)

@@ -5,3 +5,4 @@ pub mod Rows
 pub mod NewRows
 pub mod Scans
 pub mod WholeFacts
+pub mod FactHeads
