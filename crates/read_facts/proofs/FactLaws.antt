@@ -1,15 +1,16 @@
 -- Facts: sound records, the word of a fact, and a fact sheet's loops and refusals by the laws for records in a row.
 use mathlib.Core.Path.{_≡_, refl, sym, ap, _∙_, subst}
 use Prim.Native.Nat.{ℕ, _+_, _/_, _%_, _≤_, _<_}
+use native.Mathlib.Decide.{ℕ-discrete}
 use native.Mathlib.Omega.{arith}
-use mathlib.Core.Bool.{Bool, true, false}
+use mathlib.Core.Bool.{Bool, true, false, _&&_, _||_}
 use mathlib.Core.List.{List, _++_, map, map-map}
 use lib.Dec.{eqb, leb}
 use lib.ListN.{length, getD, take, set, length-map}
 use lib.Seq.{getD-set-same, getD-set-other}
 use borrow.Author.Count.{below-more}
 use borrow.Author.Needs.{needs}
-use borrow.Author.Tests.{ne-eqb, leb-true}
+use borrow.Author.Tests.{eq-eqb, ne-eqb, leb-true}
 use Rattle.theory.specs.Lists.{pick, all}
 use Rattle.theory.specs.Refusals.{firstRefusal}
 use Rattle.theory.specs.Syntax.{concept, role, Fact}
@@ -29,22 +30,14 @@ use Rattle.read_facts.specs.FactSheets.{FactsRead, HasFields}
 
 -- ---- a record's three zero bits, and a concept's second object; z, k and b are the fields that the code took
 
-module _ (x z : ℕ) (e : z ≡ factZeros sheetWidth x) where
-  pub unsound : (z ≡ 0 → ⊥) → false ≡ factSound sheetWidth x
-  unfolding factSound
-  unsound f = rw (← e, ne-eqb z 0 f)
-
-  module _ (f : z ≡ 0) (k : ℕ) (d : k ≡ factKind sheetWidth x) where
-    pub sound-concept : (b : ℕ) → k ≡ 0 → b ≡ factSecond sheetWidth x → eqb b 0 ≡ factSound sheetWidth x
-    unfolding factSound
-    sound-concept b c g = rw (← e, f, ← d, c, ← g)
-
-    pub sound-zero : (b : ℕ) → k ≡ 0 → b ≡ factSecond sheetWidth x → eqb 0 b ≡ factSound sheetWidth x
-    sound-zero b c g = eqb-comm 0 b ∙ sound-concept b c g
-
-    pub sound-role : (k ≡ 0 → ⊥) → true ≡ factSound sheetWidth x
-    unfolding factSound
-    sound-role r = rw (← e, f, ← d, ne-eqb k 0 r)
+pub sound-tested : (x z k b : ℕ) → z ≡ factZeros sheetWidth x → k ≡ factKind sheetWidth x → k < 2 → b ≡ factSecond sheetWidth x
+    → (eqb z 0 && (eqb k 1 || eqb b 0)) ≡ factSound sheetWidth x
+unfolding factSound
+sound-tested x z k b ez ek few eb = rw (← ez, ← ek, ← eb) (ap (λ t. eqb z 0 && t) (by-kind (ℕ-discrete k 0)))
+  where
+    by-kind : Dec (k ≡ 0) → (eqb k 1 || eqb b 0) ≡ pick (eqb k 0) (eqb b 0) true
+    by-kind (yes e) = rw e refl
+    by-kind (no e) = let one : k ≡ 1 = omega arith in rw one refl
 
 -- ---- the word of a fact
 
@@ -61,31 +54,61 @@ module _ (k n a b r : ℕ) (h : HasFields k n a b r) where
     second-low = rw (h .second-is) lb;
   }
 
-pub concept-whole : (n a r : ℕ) → HasFields 0 n a 0 r → a < objectBound → FactWord r
-concept-whole n a r h la = whole-word 0 n a 0 r h (λ z. refl) la (omega arith)
+module _ (x k : ℕ) (ek : k ≡ factKind sheetWidth x) where
+  pub no-second : k ≡ 0 → 0 ≡ pick (eqb (factKind sheetWidth x) 0) 0 (factSecond sheetWidth x)
+  no-second z = sym (simp (eq-eqb (factKind sheetWidth x) 0 (sym ek ∙ z)))
 
-pub role-whole : (n a b r : ℕ) → HasFields 1 n a b r → a < objectBound → b < objectBound → FactWord r
-role-whole n a b r h = whole-word 1 n a b r h (λ z. absurd (omega arith))
+  pub second-there : (b : ℕ) → (k ≡ 0 → ⊥) → b ≡ factSecond sheetWidth x
+      → b ≡ pick (eqb (factKind sheetWidth x) 0) 0 (factSecond sheetWidth x)
+  second-there b z e = e ∙ sym (simp (ne-eqb (factKind sheetWidth x) 0 (λ d. z (ek ∙ d))))
 
-module _ (ps : List ℕ) (P m a b r : ℕ) (h : Bool) (low : m ≡ lower ps P) (higher : h ≡ isHigher ps P) where
-  pub exchanged : h ≡ true → HasFields 1 m b a r → wordFact r ≡ atomAsRead ps (role P a b)
-  unfolding atomAsRead
-  exchanged t f = of-word 1 m b a r f ∙ rw (← low, ← higher, t)
+pub is-higher : (ps : List ℕ) (n m : ℕ) (h : Bool) → h ≡ isHigher ps n → h ≡ true → n ≡ m → isHigher ps m ≡ true
+is-higher ps n m h e t d = ap (isHigher ps) (sym d) ∙ sym e ∙ t
 
-  pub kept : h ≡ false → HasFields 1 m a b r → wordFact r ≡ atomAsRead ps (role P a b)
-  unfolding atomAsRead
-  kept t f = of-word 1 m a b r f ∙ rw (← low, ← higher, t)
+-- k, n and a are the record's kind, number and first object
 
-module _ (ps : List ℕ) (x k n a r : ℕ) (e : k ≡ factKind sheetWidth x) (d : n ≡ factName sheetWidth x) (c : a ≡ factFirst sheetWidth x)
-  where
-    pub concept-read : k ≡ 0 → HasFields 0 n a 0 r → wordFact r ≡ atomAsRead ps (factOf sheetWidth x)
+module _ (ps : List ℕ) (x k n a r : ℕ) (ek : k ≡ factKind sheetWidth x) (en : n ≡ factName sheetWidth x) (ea : a ≡ factFirst sheetWidth x)
+    (la : a < objectBound) where
+  -- a concept's fact
+  as-concept : k ≡ 0 → concept n a ≡ atomAsRead ps (factOf sheetWidth x)
+  unfolding factOf atomAsRead
+  as-concept z = rw (← ek, z, ← en, ← ea) refl
+
+  module _ (z : k ≡ 0) (h : HasFields 0 n a 0 r) where
+    pub concept-read : wordFact r ≡ atomAsRead ps (factOf sheetWidth x)
+    concept-read = of-word 0 n a 0 r h ∙ as-concept z
+
+    pub concept-whole : FactWord r
+    concept-whole = whole-word 0 n a 0 r h (λ e. refl) la (omega arith)
+
+  -- a role's, the higher of two partners
+  module _ (role-kind : k ≡ 0 → ⊥) (b m : ℕ) (eb : b ≡ factSecond sheetWidth x) (lb : b < objectBound) (em : m ≡ lower ps n)
+      (h : HasFields 1 m b a r) where
+    pub role-exchanged : isHigher ps (factName sheetWidth x) ≡ true → wordFact r ≡ atomAsRead ps (factOf sheetWidth x)
     unfolding factOf atomAsRead
-    concept-read z h = of-word 0 n a 0 r h ∙ rw (← e, z, ← d, ← c)
+    role-exchanged t =
+        of-word 1 m b a r h ∙ rw (em, en, ea, eb, ne-eqb (factKind sheetWidth x) 0 (λ e. role-kind (ek ∙ e)), t) refl
 
-    pub role-read : (b : ℕ) → (k ≡ 0 → ⊥) → b ≡ factSecond sheetWidth x → wordFact r ≡ atomAsRead ps (role n a b)
-        → wordFact r ≡ atomAsRead ps (factOf sheetWidth x)
-    unfolding factOf
-    role-read b z g h = h ∙ rw (← e, ne-eqb k 0 z, ← d, ← c, ← g)
+    pub exchanged-whole : FactWord r
+    exchanged-whole = whole-word 1 m b a r h (λ e. absurd (omega arith)) lb la
+
+  as-role : (k ≡ 0 → ⊥) → isHigher ps n ≡ false → atomAsRead ps (factOf sheetWidth x) ≡ role n a (factSecond sheetWidth x)
+  unfolding factOf atomAsRead
+  as-role z t = rw (ne-eqb (factKind sheetWidth x) 0 (λ e. z (ek ∙ e)), ← en, ← ea, t) refl
+
+  -- any other fact: b is the second object, or 0
+  module _ (b : ℕ) (eb : b ≡ pick (eqb (factKind sheetWidth x) 0) 0 (factSecond sheetWidth x)) (lb : b < objectBound)
+      (f : HasFields k n a b r) where
+    pub kept-whole : FactWord r
+    kept-whole = whole-word k n a b r f (λ z. eb ∙ rw (← ek, z) refl) la lb
+
+    pub kept-read : (h : Bool) → h ≡ isHigher ps n → h ≡ false → wordFact r ≡ atomAsRead ps (factOf sheetWidth x)
+    kept-read h eh t = of-word k n a b r f ∙ by-kind (ℕ-discrete k 0)
+      where
+        by-kind : Dec (k ≡ 0) → pick (eqb k 0) (concept n a) (role n a b) ≡ atomAsRead ps (factOf sheetWidth x)
+        by-kind (yes z) = rw z (as-concept z)
+        by-kind (no z) =
+            rw (ne-eqb k 0 z, eb, ne-eqb (factKind sheetWidth x) 0 (λ e. z (ek ∙ e))) (sym (as-role z (sym eh ∙ t)))
 
 -- ---- the table
 
@@ -179,16 +202,16 @@ module _ (s : List ℕ) where
 pub ruleset laws = (
   needs,
   rowLaws,
-  unsound,
-  sound-concept,
-  sound-zero,
-  sound-role,
-  concept-whole,
-  role-whole,
-  exchanged,
-  kept,
+  sound-tested,
+  no-second,
+  second-there,
+  is-higher,
   concept-read,
-  role-read,
+  concept-whole,
+  role-exchanged,
+  exchanged-whole,
+  kept-read,
+  kept-whole,
   facts-filled,
   no-words,
   word-more,

@@ -12,33 +12,29 @@ use read_records::refused;
 use words::limits::FACT_BYTES;
 use words::limits::MOST_FACT_BYTES;
 ghost use mathlib.Core.Path.{_≡_};
+ghost use mathlib.Core.Bool.{true};
 ghost use Prim.Native.Nat.{_/_, _≤_, _<_};
+ghost use lib.Dec.{eqb};
 ghost use lib.ListN.{length};
-ghost use Rattle.theory.specs.Lists.{all};
-ghost use Rattle.theory.specs.Syntax.{role};
+ghost use Rattle.theory.specs.Lists.{pick, all};
 ghost use Rattle.words.specs.FactWords.{FactWord, FactWords};
 ghost use Rattle.words.specs.Limits.{sheetWidth, objectBound, nameBound, mostFacts, recordBytes};
-ghost use Rattle.words.specs.Records.{factOf};
+ghost use Rattle.words.specs.Records.{factKind, factName, factSecond, factOf};
 ghost use Rattle.words.specs.Words.{factsIn, wordFact};
 ghost use Rattle.sheets.specs.Format.{factRecords};
-ghost use Rattle.sheets.specs.Partners.{atomAsRead};
+ghost use Rattle.sheets.specs.Partners.{isHigher, atomAsRead};
 ghost use Rattle.sheets.specs.Reading.{factsAsRead};
 ghost use Rattle.sheets.specs.Tests.{factSound};
 ghost use Rattle.read_facts.specs.FactSheets.{FactsRead, HasFields};
 
-// Whether the record's three zero bits are zero, and a concept's second object too.
+// Whether the record's three zero bits are zero, and a concept's second object too; no branch goes by the kind, which is hard to foresee.
 fn fact_sound(x: u64) -> bool
     ensures { λ r. ⌜ r ≡ factSound sheetWidth x ⌝ }
 {
-    if fact_zeros(x) == 0 {
-        if fact_kind(x) == 0 {
-            fact_second(x) == 0
-        } else {
-            true
-        }
-    } else {
-        false
-    }
+    let zeros = fact_zeros(x);
+    let kind = fact_kind(x);
+    let second = fact_second(x);
+    (zeros == 0) & ((kind == 1) | (second == 0))
 }
 
 // The word of a fact: kind 1 bit, 3 zero bits, number 12, two objects of 24.
@@ -49,21 +45,16 @@ fn word(kind: u64, number: u64, first: u64, second: u64) -> u64
     kind * 0x8000_0000_0000_0000 + number * 0x1_0000_0000_0000 + first * 0x100_0000 + second
 }
 
-// The word of a role's fact as read: of two partners the higher becomes the lower, with the objects exchanged.
-fn role_word(partners: &[u16], number: u64, first: u64, second: u64) -> u64
-    requires { ⌜ (number < nameBound) × (first < objectBound) × (second < objectBound) ⌝ }
-    ensures { λ r. ⌜ (wordFact r ≡ atomAsRead (now (partners .entry)) (role number first second)) × FactWord r ⌝ }
+// A role's second object, and 0 for a concept.
+fn second_object(x: u64) -> u64
+    ensures { λ r. ⌜ (r ≡ pick (eqb (factKind sheetWidth x) 0) 0 (factSecond sheetWidth x)) × (r < objectBound) ⌝ }
 {
-    let read = lower(partners, number);
-    if is_higher(partners, number) {
-        word(1, read, second, first)
-    } else {
-        word(1, read, first, second)
-    }
+    if fact_kind(x) == 0 { 0 } else { fact_second(x) }
 }
 
-// The word of a record's fact as read.
-fn fact_word(x: u64, partners: &[u16]) -> u64
+// The word of a record's fact as read, whose number is the higher of two partners: a role's becomes the lower, with the objects exchanged.
+fn higher_word(x: u64, partners: &[u16]) -> u64
+    requires { ⌜ isHigher (now partners) (factName sheetWidth x) ≡ true ⌝ }
     ensures { λ r. ⌜ (wordFact r ≡ atomAsRead (now (partners .entry)) (factOf sheetWidth x)) × FactWord r ⌝ }
 {
     let number = fact_name(x);
@@ -71,7 +62,21 @@ fn fact_word(x: u64, partners: &[u16]) -> u64
     if fact_kind(x) == 0 {
         word(0, number, first, 0)
     } else {
-        role_word(partners, number, first, fact_second(x))
+        let read = lower(partners, number);
+        word(1, read, fact_second(x), first)
+    }
+}
+
+// The word of a record's fact as read. Concepts and roles are read in one way, but for the higher of two partners: no branch goes by the
+// kind.
+fn fact_word(x: u64, partners: &[u16]) -> u64
+    ensures { λ r. ⌜ (wordFact r ≡ atomAsRead (now (partners .entry)) (factOf sheetWidth x)) × FactWord r ⌝ }
+{
+    let number = fact_name(x);
+    if is_higher(partners, number) {
+        higher_word(x, partners)
+    } else {
+        word(fact_kind(x), number, fact_first(x), second_object(x))
     }
 }
 

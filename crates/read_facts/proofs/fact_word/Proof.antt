@@ -6,4 +6,4 @@ pub fact-word-spec : {M : Type 1} → statement M
 fact-word-spec =
     tie.close
     (tie.spec (λ c κs. search laws) (λ c κs. search laws) (λ c κs. search laws) (λ c κs. search laws) (λ c κs. search laws)
-    (λ c κs. search laws) (λ c. search laws) (λ c. search laws))
+    (λ c κs. search laws) (λ c κs. search laws) (λ c. search laws) (λ c. search laws))

@@ -1,9 +1,0 @@
-use Rattle.read_facts.proofs.FactLaws.{laws}
-use Rattle.read_facts.proofs.role_word.Statement.{statement}
-use Rattle.read_facts.proofs.role_word.Tie as tie
-
-pub role-word-spec : {M : Type 1} → statement M
-role-word-spec =
-    tie.close
-    (tie.spec (λ c κs. search laws) (λ c κs. search laws) (λ c κs. search laws) (λ c κs. search laws) (λ c. search laws)
-    (λ c. search laws))
