@@ -54,6 +54,16 @@ pub enum Order {
     Falling,
 }
 
+impl Order {
+    pub fn said(self) -> &'static str {
+        match self {
+            Order::Rising => "rising",
+            Order::Drawn => "random",
+            Order::Falling => "falling",
+        }
+    }
+}
+
 /// Numbers that look drawn at random and are the same in each run.
 pub struct Draw(u64);
 
@@ -250,16 +260,13 @@ fn names_below(count: u64) -> Vec<Below> {
 }
 
 /// Unions of 1, 50 and 512 members, questions of 1, 2, 4 and 8 atoms, many answers and few.
-fn chains(cases: &mut Vec<Case>) {
+fn chains(order: Order, cases: &mut Vec<Case>) {
     for atoms in [1, 2, 4, 8] {
         let width = if atoms == 1 { 10_000 } else { 1_000 };
         for names in [1, 50, 512] {
             let mut draw = Draw::new();
-            let entries = filled(
-                layers(atoms, width, names, &mut draw),
-                Order::Drawn,
-                &mut draw,
-            );
+            let facts = layers(atoms, width, names, &mut draw);
+            let entries = filled(facts, order, &mut draw);
             let both = chain(atoms, vec![var(0), var(atoms)]);
             let hierarchy = names_below(names);
             let list = MIDDLE;
@@ -285,11 +292,7 @@ fn chains(cases: &mut Vec<Case>) {
 
 /// Many answers of one atom: lists of several lengths, facts in several orders.
 fn one_atom(cases: &mut Vec<Case>) {
-    for (order, said) in [
-        (Order::Rising, "rising"),
-        (Order::Drawn, "random"),
-        (Order::Falling, "falling"),
-    ] {
+    for order in [Order::Rising, Order::Drawn, Order::Falling] {
         for list in [SHORT, MIDDLE, LONG] {
             if order != Order::Drawn && list != MIDDLE {
                 continue;
@@ -299,7 +302,7 @@ fn one_atom(cases: &mut Vec<Case>) {
                 (0..MOST_FACTS as u64).map(|x| (true, link(0), x, draw.below(FIRST_LOST_TAG)));
             let facts = facts.collect();
             let entries = filled(facts, order, &mut draw);
-            let name = format!("every fact an answer, facts {said}");
+            let name = format!("every fact an answer, facts {}", order.said());
             let question = chain(1, vec![var(0), var(1)]);
             cases.push(case(&name, question, &[], entries, list));
         }
@@ -309,12 +312,12 @@ fn one_atom(cases: &mut Vec<Case>) {
 /// Pairs of pairs: many answers of four objects.
 fn pairs(cases: &mut Vec<Case>) {
     let lists = [
-        (Order::Rising, "rising", LONG),
-        (Order::Drawn, "random", LONG),
-        (Order::Drawn, "random", MIDDLE),
-        (Order::Falling, "falling", LONG),
+        (Order::Rising, LONG),
+        (Order::Drawn, LONG),
+        (Order::Drawn, MIDDLE),
+        (Order::Falling, LONG),
     ];
-    for (order, said, list) in lists {
+    for (order, list) in lists {
         let mut draw = Draw::new();
         let mut facts = Vec::new();
         for x in 0..200 {
@@ -329,7 +332,7 @@ fn pairs(cases: &mut Vec<Case>) {
             ],
         };
         let entries = filled(facts, order, &mut draw);
-        let name = format!("pairs of pairs, facts {said}");
+        let name = format!("pairs of pairs, facts {}", order.said());
         cases.push(case(&name, question, &[], entries, list));
     }
 }
@@ -392,7 +395,7 @@ fn dead_ends(cases: &mut Vec<Case>) {
         (vec![], "no answer terms"),
         (vec![var(0), var(2)], "both ends asked"),
     ] {
-        for (order, sorted) in [(Order::Rising, "rising"), (Order::Drawn, "random")] {
+        for order in [Order::Rising, Order::Drawn] {
             let mut draw = Draw::new();
             let mut facts = Vec::new();
             for x in 0..40 {
@@ -405,7 +408,7 @@ fn dead_ends(cases: &mut Vec<Case>) {
             let mut question = chain(2, answers.clone());
             question.atoms.push(Atom::Concept(22, var(2)));
             let entries = filled(facts, order, &mut draw);
-            let name = format!("dead ends, dense, {said}, facts {sorted}");
+            let name = format!("dead ends, dense, {said}, facts {}", order.said());
             cases.push(case(&name, question, &[], entries, SHORT));
         }
     }
@@ -503,10 +506,16 @@ fn others(cases: &mut Vec<Case>) {
     cases.push(case("role to itself", itself, &[], entries, MIDDLE));
 }
 
-/// All lines of the table.
-pub fn all() -> Vec<Case> {
+/// The lines of the table of scans that have their facts in this order.
+pub fn scans(order: Order) -> Vec<Case> {
     let mut cases = Vec::new();
-    chains(&mut cases);
+    chains(order, &mut cases);
+    cases
+}
+
+/// The lines of the table of all.
+pub fn all() -> Vec<Case> {
+    let mut cases = scans(Order::Drawn);
     one_atom(&mut cases);
     pairs(&mut cases);
     settled(&mut cases);
