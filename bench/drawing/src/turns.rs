@@ -20,6 +20,9 @@ pub struct Span {
 /// A time is better if it is less by more than this part of it.
 const BETTER: f64 = 0.002;
 
+/// A turn of a short call is several calls, for so many seconds: all but the first then find the processor as the same call left it.
+const TURN: f64 = 0.002;
+
 /// Seconds for one call.
 fn seconds(call: Call, case: &Case, list: &mut [u8]) -> f64 {
     let start = clock::seconds();
@@ -34,18 +37,25 @@ fn seconds(call: Call, case: &Case, list: &mut [u8]) -> f64 {
     clock::seconds() - start
 }
 
-/// Every second turn goes backwards, so that no call always comes after the same other. Whether some time is better than the best so far.
-fn turn(number: usize, calls: &[Call], case: &Case, list: &mut [u8], best: &mut [f64]) -> bool {
+/// Seconds for the best call of a turn.
+fn turn(call: Call, case: &Case, list: &mut [u8]) -> f64 {
+    let mut best = seconds(call, case, list);
+    let mut spent = best;
+    while spent < TURN {
+        let time = seconds(call, case, list);
+        best = best.min(time);
+        spent += time;
+    }
+    best
+}
+
+/// A turn of each call. Whether some time is better than the best so far.
+fn round(calls: &[Call], case: &Case, list: &mut [u8], best: &mut [f64]) -> bool {
     let mut better = false;
-    for step in 0..calls.len() {
-        let i = if number % 2 == 0 {
-            step
-        } else {
-            calls.len() - 1 - step
-        };
-        let time = seconds(calls[i], case, list);
-        better |= time < best[i] * (1.0 - BETTER);
-        best[i] = best[i].min(time);
+    for (&call, best) in calls.iter().zip(best) {
+        let time = turn(call, case, list);
+        better |= time < *best * (1.0 - BETTER);
+        *best = best.min(time);
     }
     better
 }
@@ -58,7 +68,7 @@ pub fn best<const N: usize>(calls: [Call; N], case: &Case, span: &Span) -> [f64;
     let (mut turns, mut last_better) = (0, 0);
     loop {
         turns += 1;
-        if turn(turns, &calls, case, &mut list, &mut best) {
+        if round(&calls, case, &mut list, &mut best) {
             last_better = turns;
         }
         let spent = clock::seconds() - begin;

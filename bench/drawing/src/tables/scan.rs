@@ -10,7 +10,7 @@ use crate::{before, proved, Drawn};
 const SPAN: Span = Span {
     turns: 12,
     seconds: 2.0,
-    most_seconds: 12.0,
+    most_seconds: 8.0,
 };
 
 const COLUMNS: [&str; 13] = [
