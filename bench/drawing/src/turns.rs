@@ -1,4 +1,4 @@
-//! Programs take turns, and the best turn of each counts.
+//! Programs take turns on a case.
 use crate::cases::Case;
 use crate::{clock, Drawn};
 use std::hint::black_box;
@@ -9,10 +9,10 @@ pub enum Call {
     Check(fn(&Case) -> u32),
 }
 
-/// How long the turns go on: at least so many and for so many seconds; then until the later half of them has brought nothing better, or
-/// the most seconds are over.
+/// How long the turns go on: at least so many rounds and for so many seconds; then until the later half of the rounds has brought nothing
+/// better, or the most seconds are over.
 pub struct Span {
-    pub turns: usize,
+    pub rounds: usize,
     pub seconds: f64,
     pub most_seconds: f64,
 }
@@ -21,7 +21,34 @@ pub struct Span {
 const BETTER: f64 = 0.002;
 
 /// A turn of a short call is several calls, for so many seconds: all but the first then find the processor as the same call left it.
-const TURN: f64 = 0.002;
+const TURN_SECONDS: f64 = 0.002;
+
+/// The seconds that each call took, in rounds in which each had its turn, and those of its best turn.
+pub struct Turns<const N: usize> {
+    rounds: Vec<[f64; N]>,
+    pub best: [f64; N],
+}
+
+impl<const N: usize> Turns<N> {
+    /// Whether the round has some better time than all before it.
+    fn add(&mut self, round: [f64; N]) -> bool {
+        let better = (0..N).any(|i| round[i] < self.best[i] * (1.0 - BETTER));
+        self.best = std::array::from_fn(|i| self.best[i].min(round[i]));
+        self.rounds.push(round);
+        better
+    }
+
+    /// One call's time by another's, the median over the rounds: what slows both for a while does not change it.
+    pub fn ratio(&self, one: usize, other: usize) -> f64 {
+        let ratios = self.rounds.iter().map(|round| round[one] / round[other]);
+        median(ratios.collect())
+    }
+}
+
+pub fn median(mut numbers: Vec<f64>) -> f64 {
+    numbers.sort_by(f64::total_cmp);
+    (numbers[(numbers.len() - 1) / 2] + numbers[numbers.len() / 2]) / 2.0
+}
 
 /// Seconds for one call.
 fn seconds(call: Call, case: &Case, list: &mut [u8]) -> f64 {
@@ -41,7 +68,7 @@ fn seconds(call: Call, case: &Case, list: &mut [u8]) -> f64 {
 fn turn(call: Call, case: &Case, list: &mut [u8]) -> f64 {
     let mut best = seconds(call, case, list);
     let mut spent = best;
-    while spent < TURN {
+    while spent < TURN_SECONDS {
         let time = seconds(call, case, list);
         best = best.min(time);
         spent += time;
@@ -49,32 +76,25 @@ fn turn(call: Call, case: &Case, list: &mut [u8]) -> f64 {
     best
 }
 
-/// A turn of each call. Whether some time is better than the best so far.
-fn round(calls: &[Call], case: &Case, list: &mut [u8], best: &mut [f64]) -> bool {
-    let mut better = false;
-    for (&call, best) in calls.iter().zip(best) {
-        let time = turn(call, case, list);
-        better |= time < *best * (1.0 - BETTER);
-        *best = best.min(time);
-    }
-    better
-}
-
-/// Seconds of the best turn of each call.
-pub fn best<const N: usize>(calls: [Call; N], case: &Case, span: &Span) -> [f64; N] {
+/// Round after round until the span is over.
+pub fn take<const N: usize>(calls: [Call; N], case: &Case, span: &Span) -> Turns<N> {
     let mut list = vec![0; case.list];
-    let mut best = [f64::INFINITY; N];
+    let mut turns = Turns {
+        rounds: Vec::new(),
+        best: [f64::INFINITY; N],
+    };
+    let mut last_better = 0;
     let begin = clock::seconds();
-    let (mut turns, mut last_better) = (0, 0);
     loop {
-        turns += 1;
-        if round(&calls, case, &mut list, &mut best) {
-            last_better = turns;
+        let better = turns.add(calls.map(|call| turn(call, case, &mut list)));
+        let rounds = turns.rounds.len();
+        if better {
+            last_better = rounds;
         }
         let spent = clock::seconds() - begin;
-        let settled = spent >= span.most_seconds || 2 * last_better <= turns;
-        if turns >= span.turns && spent >= span.seconds && settled {
-            return best;
+        let settled = spent >= span.most_seconds || 2 * last_better <= rounds;
+        if rounds >= span.rounds && spent >= span.seconds && settled {
+            return turns;
         }
     }
 }

@@ -10,7 +10,7 @@ use crate::Drawn;
 
 /// Drawing alone is a difference, which takes many turns to be told.
 const SPAN: Span = Span {
-    turns: 4,
+    rounds: 4,
     seconds: 1.0,
     most_seconds: 1.0,
 };
@@ -46,7 +46,7 @@ fn line(case: &Case, drawn: Drawn, desk: Option<&Desk>) -> (f64, String) {
         Call::Check(LIBRARY.check),
         Call::Answer(plain::answer::<Words>),
     ];
-    let [answer, check, plain] = turns::best(calls, case, &SPAN);
+    let [answer, check, plain] = turns::take(calls, case, &SPAN).best;
     let drawing = drawing(answer, check);
     let ratio = drawing / plain;
     let line = row(&[

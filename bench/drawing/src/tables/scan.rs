@@ -8,12 +8,12 @@ use crate::{before, proved, Drawn};
 
 /// A line that only noise makes slower must not look slower: so many turns that the best is steady.
 const SPAN: Span = Span {
-    turns: 12,
+    rounds: 16,
     seconds: 2.0,
-    most_seconds: 8.0,
+    most_seconds: 10.0,
 };
 
-const COLUMNS: [&str; 13] = [
+const COLUMNS: [&str; 14] = [
     "case",
     "facts",
     "members",
@@ -21,6 +21,7 @@ const COLUMNS: [&str; 13] = [
     "answers",
     "answer before",
     "answer",
+    "before/after, whole call",
     "drawing before",
     "drawing",
     "before/after",
@@ -31,8 +32,7 @@ const COLUMNS: [&str; 13] = [
 
 /// Seconds of one case.
 struct Times {
-    /// of the earlier library, if there is one
-    before: Option<Proved>,
+    before: Option<Before>,
     after: Proved,
     fields: f64,
     words: f64,
@@ -41,6 +41,12 @@ struct Times {
 struct Proved {
     answer: f64,
     check: f64,
+}
+
+/// The earlier library's, and its whole call by that of this one.
+struct Before {
+    times: Proved,
+    whole: f64,
 }
 
 impl Proved {
@@ -52,7 +58,11 @@ impl Proved {
 impl Times {
     fn gain(&self) -> Option<f64> {
         let before = self.before.as_ref()?;
-        Some(before.drawing() / self.after.drawing())
+        Some(before.times.drawing() / self.after.drawing())
+    }
+
+    fn whole(&self) -> Option<f64> {
+        self.before.as_ref().map(|before| before.whole)
     }
 
     fn ratio(&self) -> f64 {
@@ -60,26 +70,24 @@ impl Times {
     }
 }
 
+/// The two libraries' calls stand side by side, for the ratios of a round.
 fn times(case: &Case) -> Times {
-    let answer = Call::Answer(proved::LIBRARY.answer);
-    let check = Call::Check(proved::LIBRARY.check);
-    let fields = Call::Answer(plain::answer::<Fields>);
-    let words = Call::Answer(plain::answer::<Words>);
+    let after = [
+        Call::Answer(proved::LIBRARY.answer),
+        Call::Check(proved::LIBRARY.check),
+        Call::Answer(plain::answer::<Fields>),
+        Call::Answer(plain::answer::<Words>),
+    ];
     let (before, [answer, check, fields, words]) = match before::LIBRARY {
-        None => (
-            None,
-            turns::best([answer, check, fields, words], case, &SPAN),
-        ),
+        None => (None, turns::take(after, case, &SPAN).best),
         Some(library) => {
-            let (earlier, its_check) = (Call::Answer(library.answer), Call::Check(library.check));
-            let calls = [earlier, answer, its_check, check, fields, words];
-            let [earlier, answer, its_check, check, fields, words] =
-                turns::best(calls, case, &SPAN);
-            let before = Proved {
-                answer: earlier,
-                check: its_check,
-            };
-            (Some(before), [answer, check, fields, words])
+            let before = [Call::Check(library.check), Call::Answer(library.answer)];
+            let [a, c, f, w] = after;
+            let turns = turns::take([before[0], before[1], a, c, f, w], case, &SPAN);
+            let [check, answer, after @ ..] = turns.best;
+            let times = Proved { answer, check };
+            let whole = turns.ratio(1, 2);
+            (Some(Before { times, whole }), after)
         }
     };
     Times {
@@ -91,37 +99,40 @@ fn times(case: &Case) -> Times {
 }
 
 fn line(case: &Case, order: Order, drawn: Drawn, times: &Times) -> String {
-    let none = || "-".to_string();
-    let before = times.before.as_ref();
+    let or_none = |cell: Option<String>| cell.unwrap_or("-".to_string());
+    let ratio = |ratio: f64| format!("{ratio:.2}");
+    let before = times.before.as_ref().map(|before| &before.times);
     row(&[
         &case.name,
         order.said(),
         &case.members.len().to_string(),
         &case.members[0].atoms.len().to_string(),
         &answers(drawn),
-        &before.map_or_else(none, |before| ms(before.answer)),
+        &or_none(before.map(|before| ms(before.answer))),
         &ms(times.after.answer),
-        &before.map_or_else(none, |before| ms(before.drawing())),
+        &or_none(times.whole().map(ratio)),
+        &or_none(before.map(|before| ms(before.drawing()))),
         &ms(times.after.drawing()),
-        &times.gain().map_or_else(none, |gain| format!("{gain:.2}")),
+        &or_none(times.gain().map(ratio)),
         &ms(times.fields),
         &ms(times.words),
-        &format!("{:.2}", times.ratio()),
+        &ratio(times.ratio()),
     ])
 }
 
-/// The middle, the least and the greatest of the ratios.
-fn summary(name: &str, mut ratios: Vec<f64>) {
-    ratios.sort_by(f64::total_cmp);
-    let (Some(least), Some(greatest)) = (ratios.first(), ratios.last()) else {
+/// Of the ratios in one column.
+fn summary(name: &str, ratios: Vec<f64>) {
+    if ratios.is_empty() {
         return;
-    };
-    let median = (ratios[(ratios.len() - 1) / 2] + ratios[ratios.len() / 2]) / 2.0;
+    }
+    let least = ratios.iter().copied().fold(f64::INFINITY, f64::min);
+    let greatest = ratios.iter().copied().fold(0.0, f64::max);
+    let median = turns::median(ratios);
     println!("{name}: median {median:.2}, least {least:.2}, greatest {greatest:.2}");
 }
 
 pub fn print(part: Option<&str>) {
-    let (mut lines, mut gains, mut ratios) = (Vec::new(), Vec::new(), Vec::new());
+    let (mut lines, mut all) = (Vec::new(), Vec::new());
     for order in [Order::Drawn, Order::Rising] {
         for case in cases::scans(order).iter().filter(|case| chosen(case, part)) {
             let drawn = compare(case, None);
@@ -129,15 +140,21 @@ pub fn print(part: Option<&str>) {
             let line = line(case, order, drawn, &times);
             eprintln!("{line}");
             lines.push(line);
-            gains.extend(times.gain());
-            ratios.push(times.ratio());
+            all.push(times);
         }
     }
     println!(
-        "All agree on all {} cases. Milliseconds of the processor, the best of many turns.",
+        "All agree on all {} cases. Milliseconds of the processor, the best of many turns; of whole calls' ratios the median.",
         lines.len()
     );
     println!("{}\n{}\n", head(&COLUMNS), lines.join("\n"));
-    summary("before/after", gains);
-    summary("drawing/plain by words", ratios);
+    summary(
+        "before/after, whole call",
+        all.iter().filter_map(Times::whole).collect(),
+    );
+    summary("before/after", all.iter().filter_map(Times::gain).collect());
+    summary(
+        "drawing/plain by words",
+        all.iter().map(Times::ratio).collect(),
+    );
 }
