@@ -20,7 +20,8 @@ pub struct Span {
 /// A time is better if it is less by more than this part of it.
 const BETTER: f64 = 0.002;
 
-/// A turn of a short call is several calls, for so many seconds: all but the first then find the processor as the same call left it.
+/// A turn of a short call is several calls, for so many seconds: the clock can be some microseconds off where other work comes between,
+/// and all calls but the first find the processor as the same call left it.
 const TURN_SECONDS: f64 = 0.002;
 
 /// The seconds that each call took, in rounds in which each had its turn, and those of its best turn.
@@ -50,9 +51,7 @@ pub fn median(mut numbers: Vec<f64>) -> f64 {
     (numbers[(numbers.len() - 1) / 2] + numbers[numbers.len() / 2]) / 2.0
 }
 
-/// Seconds for one call.
-fn seconds(call: Call, case: &Case, list: &mut [u8]) -> f64 {
-    let start = clock::seconds();
+fn run(call: Call, case: &Case, list: &mut [u8]) {
     match call {
         Call::Answer(answer) => {
             black_box(answer(black_box(case), black_box(list)));
@@ -61,19 +60,20 @@ fn seconds(call: Call, case: &Case, list: &mut [u8]) -> f64 {
             black_box(check(black_box(case)));
         }
     }
-    clock::seconds() - start
 }
 
-/// Seconds for the best call of a turn.
+/// Seconds for a call, the mean of a turn.
 fn turn(call: Call, case: &Case, list: &mut [u8]) -> f64 {
-    let mut best = seconds(call, case, list);
-    let mut spent = best;
-    while spent < TURN_SECONDS {
-        let time = seconds(call, case, list);
-        best = best.min(time);
-        spent += time;
+    let start = clock::seconds();
+    let mut calls = 0.0;
+    loop {
+        run(call, case, list);
+        calls += 1.0;
+        let spent = clock::seconds() - start;
+        if spent >= TURN_SECONDS {
+            return spent / calls;
+        }
     }
-    best
 }
 
 /// Round after round until the span is over.
