@@ -1,22 +1,25 @@
 -- Facts: sound records, the word of a fact, and a fact sheet's loops and refusals by the laws for records in a row.
 use mathlib.Core.Path.{_≡_, refl, sym, ap, _∙_, subst}
-use Prim.Native.Nat.{ℕ, _+_, _/_, _%_, _≤_, _<_}
+use Prim.Native.Nat.{ℕ, _+_, _*_, _/_, _%_, _^_, _≤_, _<_}
+use native.Mathlib.Nat.{div-one}
 use native.Mathlib.Decide.{ℕ-discrete}
 use native.Mathlib.Omega.{arith}
 use mathlib.Core.Bool.{Bool, true, false, _&&_, _||_}
 use mathlib.Core.List.{List, _++_, map, map-map}
-use lib.Dec.{eqb, leb}
-use lib.ListN.{length, getD, take, set, length-map}
+use lib.Dec.{T, eqb, leb}
+use lib.ListN.{length, getD, take, set, length-map, length-set}
+use lib.Pow.{shr-shr, high, low}
 use lib.Seq.{getD-set-same, getD-set-other}
 use borrow.Author.Count.{below-more}
 use borrow.Author.Needs.{needs}
-use borrow.Author.Tests.{eq-eqb, ne-eqb, leb-true}
+use borrow.Author.Tests.{eq-eqb, ne-eqb, eqb-true, leb-true}
 use Rattle.theory.specs.Lists.{pick, all}
 use Rattle.theory.specs.Refusals.{firstRefusal}
+use Rattle.theory.specs.Laws.Options.{T-and, is-true}
 use Rattle.theory.specs.Syntax.{concept, role, Fact}
 use Rattle.words.specs.FactWords.{FactWord, FactWords}
 use Rattle.words.specs.Limits.{sheetWidth, objectBound, mostFacts, mostFactBytes, recordBytes}
-use Rattle.words.specs.Records.{factKind, factZeros, factName, factFirst, factSecond, factOf}
+use Rattle.words.specs.Records.{field, factKind, factZeros, factName, factFirst, factSecond, factOf}
 use Rattle.words.specs.Words.{factsIn, wordFact}
 use Rattle.sheets.specs.Format.{factRecords, factsOf}
 use Rattle.sheets.specs.Partners.{isHigher, lower, atomAsRead}
@@ -24,9 +27,10 @@ use Rattle.sheets.specs.Reading.{factsAsRead}
 use Rattle.sheets.specs.Refusals.{factRefusals, numberOf}
 use Rattle.sheets.specs.Tests.{factSound, refuses12, refuses13}
 use Rattle.sheets.specs.Laws.Tests.{eqb-comm}
-use Rattle.sheets.specs.Laws.RecordLoops.{left, rowLaws, row-length, fill-ends, no-multiple, too-long, unsound-record, no-refusal}
+use Rattle.sheets.specs.Laws.RecordLoops.{Nth, left, rowLaws, row-length, test-begins, test-ends, test-passed, test-failed, fill-begins}
+use Rattle.sheets.specs.Laws.RecordLoops.{fill-goes-on, fill-ends, no-multiple, too-long, unsound-record, no-refusal}
 use Rattle.read_records.specs.ReadIntoLaws.{sheet-refused, sheet-read}
-use Rattle.read_facts.specs.FactSheets.{FactsRead, HasFields}
+use Rattle.read_facts.specs.FactSheets.{FactsRead, HoldsFacts, Widened, HasFields}
 
 -- ---- a record's three zero bits, and a concept's second object; z, k and b are the fields that the code took
 
@@ -38,6 +42,9 @@ sound-tested x z k b ez ek few eb = rw (← ez, ← ek, ← eb) (ap (λ t. eqb z
     by-kind : Dec (k ≡ 0) → (eqb k 1 || eqb b 0) ≡ pick (eqb k 0) (eqb b 0) true
     by-kind (yes e) = rw e refl
     by-kind (no e) = let one : k ≡ 1 = omega arith in rw one refl
+
+pub is-sound : (x : ℕ) (r : Bool) → r ≡ factSound sheetWidth x → r ≡ true → factSound sheetWidth x ≡ true
+is-sound x r e t = sym e ∙ t
 
 -- ---- the word of a fact
 
@@ -53,14 +60,6 @@ module _ (k n a b r : ℕ) (h : HasFields k n a b r) where
     first-low = rw (h .first-is) la;
     second-low = rw (h .second-is) lb;
   }
-
-module _ (x k : ℕ) (ek : k ≡ factKind sheetWidth x) where
-  pub no-second : k ≡ 0 → 0 ≡ pick (eqb (factKind sheetWidth x) 0) 0 (factSecond sheetWidth x)
-  no-second z = sym (simp (eq-eqb (factKind sheetWidth x) 0 (sym ek ∙ z)))
-
-  pub second-there : (b : ℕ) → (k ≡ 0 → ⊥) → b ≡ factSecond sheetWidth x
-      → b ≡ pick (eqb (factKind sheetWidth x) 0) 0 (factSecond sheetWidth x)
-  second-there b z e = e ∙ sym (simp (ne-eqb (factKind sheetWidth x) 0 (λ d. z (ek ∙ d))))
 
 pub is-higher : (ps : List ℕ) (n m : ℕ) (h : Bool) → h ≡ isHigher ps n → h ≡ true → n ≡ m → isHigher ps m ≡ true
 is-higher ps n m h e t d = ap (isHigher ps) (sym d) ∙ sym e ∙ t
@@ -92,23 +91,72 @@ module _ (ps : List ℕ) (x k n a r : ℕ) (ek : k ≡ factKind sheetWidth x) (e
     pub exchanged-whole : FactWord r
     exchanged-whole = whole-word 1 m b a r h (λ e. absurd (omega arith)) lb la
 
-  as-role : (k ≡ 0 → ⊥) → isHigher ps n ≡ false → atomAsRead ps (factOf sheetWidth x) ≡ role n a (factSecond sheetWidth x)
+-- ---- any other fact: the record with wider objects
+
+-- what stands above the objects
+upper-field : (r x k width : ℕ) → r / 2 ^ 48 ≡ x / 2 ^ 32 → field (48 + k) width r ≡ field (32 + k) width x
+upper-field r x k width e = ap (λ y. y % 2 ^ width) (sym (shr-shr r 48 k) ∙ ap (λ y. y / 2 ^ k) e ∙ shr-shr x 32 k)
+
+low-bits : (y : ℕ) → y % 2 ^ 16 < 2 ^ 24
+low-bits y = omega arith
+
+-- h, m and l are what the record is put together from
+pub wide-fields : (x h m l : ℕ) → h ≡ x / 2 ^ 32 → m ≡ x / 2 ^ 16 % 2 ^ 16 → l ≡ x % 2 ^ 16 → Widened x (h * 2 ^ 48 + m * 2 ^ 24 + l)
+wide-fields x h m l eh em el = subst (Widened x) regrouped (record {
+  kind-is = upper-field r x 15 1 (upper ∙ eh);
+  zeros-are = upper-field r x 12 3 (upper ∙ eh);
+  name-is = upper-field r x 0 12 (upper ∙ eh);
+  first-is = ap (λ y. y % 2 ^ 24) (high (h * 2 ^ 24 + m) 24 l-low) ∙ low h 24 m-low ∙ em;
+  second-is = ap (λ y. y % 2 ^ 24) (div-one r) ∙ low (h * 2 ^ 24 + m) 24 l-low ∙ el ∙ ap (λ y. y % 2 ^ 16) (sym (div-one x));
+})
+  where
+    r : ℕ
+    r = (h * 2 ^ 24 + m) * 2 ^ 24 + l
+
+    regrouped : r ≡ h * 2 ^ 48 + m * 2 ^ 24 + l
+    regrouped = omega arith
+
+    m-low : m < 2 ^ 24
+    m-low = rw em (low-bits (x / 2 ^ 16))
+
+    l-low : l < 2 ^ 24
+    l-low = rw el (low-bits x)
+
+    upper : r / 2 ^ 48 ≡ h
+    upper = sym (shr-shr r 24 24) ∙ ap (λ y. y / 2 ^ 24) (high (h * 2 ^ 24 + m) 24 l-low) ∙ high h 24 m-low
+
+module _ (x f : ℕ) (w : Widened x f) where
+  pub widened-whole : factSound sheetWidth x ≡ true → FactWord f
+  unfolding factSound
+  widened-whole sound = record {
+    zeros = w .zeros-are ∙ eqb-true (factZeros sheetWidth x) 0 (is-true (eqb (factZeros sheetWidth x) 0) (both .0));
+    empty = λ z. w .second-is ∙ eqb-true (factSecond sheetWidth x) 0 (is-true (eqb (factSecond sheetWidth x) 0) (second (sym (w .kind-is) ∙ z)));
+    first-low = rw (w .first-is) (omega arith);
+    second-low = rw (w .second-is) (omega arith);
+  }
+    where
+      both : T (eqb (factZeros sheetWidth x) 0) × T (pick (eqb (factKind sheetWidth x) 0) (eqb (factSecond sheetWidth x) 0) true)
+      both =
+          T-and (eqb (factZeros sheetWidth x) 0) (pick (eqb (factKind sheetWidth x) 0) (eqb (factSecond sheetWidth x) 0) true) .0
+          (subst T (sym sound) tt)
+
+      second : factKind sheetWidth x ≡ 0 → T (eqb (factSecond sheetWidth x) 0)
+      second z = subst (λ b. T (pick b (eqb (factSecond sheetWidth x) 0) true)) (eq-eqb (factKind sheetWidth x) 0 z) (both .1)
+
+  pub widened-read : (ps : List ℕ) (n : ℕ) (h : Bool) → n ≡ factName sheetWidth x → h ≡ isHigher ps n → h ≡ false
+      → wordFact f ≡ atomAsRead ps (factOf sheetWidth x)
   unfolding factOf atomAsRead
-  as-role z t = rw (ne-eqb (factKind sheetWidth x) 0 (λ e. z (ek ∙ e)), ← en, ← ea, t) refl
-
-  -- any other fact: b is the second object, or 0
-  module _ (b : ℕ) (eb : b ≡ pick (eqb (factKind sheetWidth x) 0) 0 (factSecond sheetWidth x)) (lb : b < objectBound)
-      (f : HasFields k n a b r) where
-    pub kept-whole : FactWord r
-    kept-whole = whole-word k n a b r f (λ z. eb ∙ rw (← ek, z) refl) la lb
-
-    pub kept-read : (h : Bool) → h ≡ isHigher ps n → h ≡ false → wordFact r ≡ atomAsRead ps (factOf sheetWidth x)
-    kept-read h eh t = of-word k n a b r f ∙ by-kind (ℕ-discrete k 0)
-      where
-        by-kind : Dec (k ≡ 0) → pick (eqb k 0) (concept n a) (role n a b) ≡ atomAsRead ps (factOf sheetWidth x)
-        by-kind (yes z) = rw z (as-concept z)
-        by-kind (no z) =
-            rw (ne-eqb k 0 z, eb, ne-eqb (factKind sheetWidth x) 0 (λ e. z (ek ∙ e))) (sym (as-role z (sym eh ∙ t)))
+  widened-read ps n h en eh t =
+      rw (w .kind-is, w .name-is, w .first-is, w .second-is)
+      (as-it-is (eqb (factKind sheetWidth x) 0) (ap (isHigher ps) (sym en) ∙ sym eh ∙ t))
+    where
+      as-it-is : (b : Bool) → isHigher ps (factName sheetWidth x) ≡ false
+          → pick b (concept (factName sheetWidth x) (factFirst sheetWidth x))
+          (role (factName sheetWidth x) (factFirst sheetWidth x) (factSecond sheetWidth x))
+          ≡ atomAsRead ps (pick b (concept (factName sheetWidth x) (factFirst sheetWidth x))
+          (role (factName sheetWidth x) (factFirst sheetWidth x) (factSecond sheetWidth x)))
+      as-it-is true e = refl
+      as-it-is false e = sym (rw e refl)
 
 -- ---- the table
 
@@ -142,18 +190,62 @@ module _ (ps s : List ℕ) where
       sym (ap length as-read ∙ length-map (factRecords sheetWidth s) (factRead ps) ∙ row-length (recordBytes sheetWidth) s 0 (factCount s))
 
 -- its words, bit for bit
-pub no-words : (table : List ℕ) → FactWords table 0
+no-words : (table : List ℕ) → FactWords table 0
 no-words table = record { each = λ i h. absurd (omega arith) }
 
-pub word-more : (table : List ℕ) (i n v : ℕ) → FactWords table i → i < n → n ≤ length table → FactWord v → FactWords (set table i v) (i + 1)
-word-more table i n v h l room w = record {
+word-more : (table : List ℕ) (i v : ℕ) → FactWords table i → i < length table → FactWord v → FactWords (set table i v) (i + 1)
+word-more table i v h room w = record {
   each = below-more (λ j. FactWord (getD (set table i v) j 0)) i
       (λ j m. subst FactWord (sym (getD-set-other table i j v 0 (λ e. omega arith))) (h .each j m))
-      (subst FactWord (sym (getD-set-same table i v 0 (omega arith))) w);
+      (subst FactWord (sym (getD-set-same table i v 0 room)) w);
 }
 
-pub words-filled : (table : List ℕ) (i n : ℕ) → FactWords table i → i ≤ n → n ≤ i → FactWords table n
-words-filled table i n h most past = let e : i ≡ n = omega arith in subst (FactWords table) e h
+-- the records before i are sound and their facts are in the table
+pub record Filling (ps s table₀ table : List ℕ) (i : ℕ) : Type 0 where
+  pub within : i ≤ factCount s
+  pub same-length : length table ≡ length table₀
+  pub room : factCount s ≤ length table
+  pub words : FactWords table i
+  pub tested : all (factSound sheetWidth) (left (recordBytes sheetWidth) s 0 (factCount s) i) ≡ all (factSound sheetWidth) (factRecords sheetWidth s)
+  pub so-far : map wordFact (take i table) ++ factsLeft ps s i ≡ map (factRead ps) (factRecords sheetWidth s)
+
+module _ (ps s table₀ : List ℕ) where
+  pub filling-begun : factCount s ≤ length table₀ → Filling ps s table₀ table₀ 0
+  filling-begun h = record {
+    within = omega arith;
+    same-length = refl;
+    room = h;
+    words = no-words table₀;
+    tested = test-begins (factSound sheetWidth) (recordBytes sheetWidth) s 0 (factCount s);
+    so-far = fill-begins wordFact (factRead ps) (recordBytes sheetWidth) s 0 (factCount s) table₀;
+  }
+
+  module _ (table : List ℕ) (i : ℕ) (f : Filling ps s table₀ table i) where
+    pub filling-ended : factCount s ≤ i → HoldsFacts ps s table
+    filling-ended past = let e : i ≡ factCount s = omega (arith, f .within) in record {
+      facts = facts-filled ps s table i (f .within) past (f .so-far);
+      words = subst (FactWords table) e (f .words);
+    }
+
+    pub all-tested : factCount s ≤ i → true ≡ all (factSound sheetWidth) (factRecords sheetWidth s)
+    all-tested = test-ends (factSound sheetWidth) (recordBytes sheetWidth) s 0 (factCount s) i _ (f .tested)
+
+    module _ (h : i < factCount s) (x : ℕ) (r : Bool) (e : r ≡ factSound sheetWidth x) (here : Nth (recordBytes sheetWidth) s 0 i x) where
+      pub filling-failed : r ≡ false → false ≡ all (factSound sheetWidth) (factRecords sheetWidth s)
+      filling-failed = test-failed (factSound sheetWidth) (recordBytes sheetWidth) s 0 (factCount s) i _ (f .tested) h x r e here
+
+      pub filling-on : (v : ℕ) → r ≡ true → wordFact v ≡ factRead ps x → FactWord v → Filling ps s table₀ (set table i v) (i + 1)
+      filling-on v t word whole = record {
+        within = omega arith;
+        same-length = length-set table i v ∙ f .same-length;
+        room = rw (length-set table i v) (f .room);
+        words = word-more table i v (f .words) (omega (arith, f .room)) whole;
+        tested = test-passed (factSound sheetWidth) (recordBytes sheetWidth) s 0 (factCount s) i _ (f .tested) h x r e here t;
+        so-far = fill-goes-on wordFact (factRead ps) (recordBytes sheetWidth) s 0 (factCount s) table i _ (f .so-far) x v h (f .room) word here;
+      }
+
+pub unless-sound : (ps s table : List ℕ) → false ≡ true → HoldsFacts ps s table
+unless-sound ps s table e = absurd (subst T (sym e) tt)
 
 -- ---- the sheet's refusals
 
@@ -186,36 +278,36 @@ module _ (s : List ℕ) where
       unfolding factRefusals refuses12 refuses13
       unsound-fact f = unsound-record 12 13 (recordBytes sheetWidth) (mostFactBytes sheetWidth) s sound even limit short l (sym e ∙ f)
 
-      pub facts-read : (ps table : List ℕ) → r ≡ true → factsIn table (factCount s) ≡ factsAsRead ps sheetWidth s
-          → FactWords table (factCount s)
-          → FactsRead ps s table 0 (factCount s)
+      pub facts-read : (ps table : List ℕ) → r ≡ true → (r ≡ true → HoldsFacts ps s table) → FactsRead ps s table 0 (factCount s)
       unfolding factRefusals refuses12 refuses13
-      facts-read ps table t read words = record {
+      facts-read ps table t holds = record {
         sheet =
             sheet-read (numberOf (firstRefusal (factRefusals sheetWidth s))) (factsAsRead ps sheetWidth s) (factsIn table) mostFacts
             0 (factCount s) refl
             (no-refusal 12 13 (recordBytes sheetWidth) (mostFactBytes sheetWidth) s sound even limit short l (sym e ∙ t))
-            read (facts-counted ps s) (omega (arith, leb-true limit (mostFactBytes sheetWidth) l));
-        words = words;
+            (holds t .facts) (facts-counted ps s) (omega (arith, leb-true limit (mostFactBytes sheetWidth) l));
+        words = holds t .words;
       }
 
 pub ruleset laws = (
   needs,
   rowLaws,
   sound-tested,
-  no-second,
-  second-there,
+  is-sound,
   is-higher,
   concept-read,
   concept-whole,
   role-exchanged,
   exchanged-whole,
-  kept-read,
-  kept-whole,
-  facts-filled,
-  no-words,
-  word-more,
-  words-filled,
+  wide-fields,
+  widened-read,
+  widened-whole,
+  filling-begun,
+  filling-ended,
+  all-tested,
+  filling-failed,
+  filling-on,
+  unless-sound,
   facts-refused,
   facts-odd,
   facts-long,

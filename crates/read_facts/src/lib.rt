@@ -14,18 +14,16 @@ use words::limits::MOST_FACT_BYTES;
 ghost use mathlib.Core.Path.{_≡_};
 ghost use mathlib.Core.Bool.{true};
 ghost use Prim.Native.Nat.{_/_, _≤_, _<_};
-ghost use lib.Dec.{eqb};
 ghost use lib.ListN.{length};
-ghost use Rattle.theory.specs.Lists.{pick, all};
-ghost use Rattle.words.specs.FactWords.{FactWord, FactWords};
-ghost use Rattle.words.specs.Limits.{sheetWidth, objectBound, nameBound, mostFacts, recordBytes};
-ghost use Rattle.words.specs.Records.{factKind, factName, factSecond, factOf};
-ghost use Rattle.words.specs.Words.{factsIn, wordFact};
+ghost use Rattle.theory.specs.Lists.{all};
+ghost use Rattle.words.specs.FactWords.{FactWord};
+ghost use Rattle.words.specs.Limits.{sheetWidth, objectBound, nameBound, sheetRecordBound, mostFacts, recordBytes};
+ghost use Rattle.words.specs.Records.{factName, factOf};
+ghost use Rattle.words.specs.Words.{wordFact};
 ghost use Rattle.sheets.specs.Format.{factRecords};
 ghost use Rattle.sheets.specs.Partners.{isHigher, atomAsRead};
-ghost use Rattle.sheets.specs.Reading.{factsAsRead};
 ghost use Rattle.sheets.specs.Tests.{factSound};
-ghost use Rattle.read_facts.specs.FactSheets.{FactsRead, HasFields};
+ghost use Rattle.read_facts.specs.FactSheets.{FactsRead, HoldsFacts, Widened, HasFields};
 
 // Whether the record's three zero bits are zero, and a concept's second object too; no branch goes by the kind, which is hard to foresee.
 fn fact_sound(x: u64) -> bool
@@ -45,11 +43,12 @@ fn word(kind: u64, number: u64, first: u64, second: u64) -> u64
     kind * 0x8000_0000_0000_0000 + number * 0x1_0000_0000_0000 + first * 0x100_0000 + second
 }
 
-// A role's second object, and 0 for a concept.
-fn second_object(x: u64) -> u64
-    ensures { λ r. ⌜ (r ≡ pick (eqb (factKind sheetWidth x) 0) 0 (factSecond sheetWidth x)) × (r < objectBound) ⌝ }
+// The record with 24 bits for each object in place of 16.
+fn widened(x: u64) -> u64
+    requires { ⌜ x < sheetRecordBound ⌝ }
+    ensures { λ r. ⌜ Widened x r ⌝ }
 {
-    if fact_kind(x) == 0 { 0 } else { fact_second(x) }
+    x / 0x1_0000_0000 * 0x1_0000_0000_0000 + x / 0x1_0000 % 0x1_0000 * 0x100_0000 + x % 0x1_0000
 }
 
 // The word of a record's fact as read, whose number is the higher of two partners: a role's becomes the lower, with the objects exchanged.
@@ -67,48 +66,37 @@ fn higher_word(x: u64, partners: &[u16]) -> u64
     }
 }
 
-// The word of a record's fact as read. Concepts and roles are read in one way, but for the higher of two partners: no branch goes by the
+// The word of a sound record's fact as read: the record with wider objects, but for the higher of two partners. No branch goes by the
 // kind.
 fn fact_word(x: u64, partners: &[u16]) -> u64
+    requires { ⌜ (x < sheetRecordBound) × (factSound sheetWidth x ≡ true) ⌝ }
     ensures { λ r. ⌜ (wordFact r ≡ atomAsRead (now (partners .entry)) (factOf sheetWidth x)) × FactWord r ⌝ }
 {
-    let number = fact_name(x);
-    if is_higher(partners, number) {
+    if is_higher(partners, fact_name(x)) {
         higher_word(x, partners)
     } else {
-        word(fact_kind(x), number, fact_first(x), second_object(x))
+        widened(x)
     }
 }
 
-// Whether every record of the sheet is sound.
-fn all_sound(s: &[u8]) -> bool
-    ensures { λ r. ⌜ r ≡ all (factSound sheetWidth) (factRecords sheetWidth (now (s .entry))) ⌝ }
+// Puts the sheet's facts as read into the first words of the table, as long as its records are sound; tells whether all are.
+fn fill_facts(s: &[u8], partners: &[u16], table: &mut [u64]) -> bool
+    requires { ⌜ length (now s) / recordBytes sheetWidth ≤ length (now table) ⌝ }
+    ensures { λ r. ⌜ (length (now (table .exit)) ≡ length (now (table .entry)))
+        × (r ≡ all (factSound sheetWidth) (factRecords sheetWidth (now (s .entry))))
+        × (r ≡ true → HoldsFacts (now (partners .entry)) (now (s .entry)) (now (table .exit))) ⌝ }
 {
     let n = s.len() / FACT_BYTES;
     let mut i: usize = 0;
     while i < n {
-        if !fact_sound(six(s, FACT_BYTES * i)) {
+        let x = six(s, FACT_BYTES * i);
+        if !fact_sound(x) {
             return false;
         }
+        table[i] = fact_word(x, partners);
         i += 1;
     }
     true
-}
-
-// Puts the sheet's facts as read into the first words of the table.
-fn fill_facts(s: &[u8], partners: &[u16], table: &mut [u64])
-    requires { ⌜ length (now s) / recordBytes sheetWidth ≤ length (now table) ⌝ }
-    ensures { λ _. ⌜ (factsIn (now (table .exit)) (length (now (s .entry)) / recordBytes sheetWidth)
-        ≡ factsAsRead (now (partners .entry)) sheetWidth (now (s .entry)))
-        × FactWords (now (table .exit)) (length (now (s .entry)) / recordBytes sheetWidth)
-        × (length (now (table .exit)) ≡ length (now (table .entry))) ⌝ }
-{
-    let n = s.len() / FACT_BYTES;
-    let mut i: usize = 0;
-    while i < n {
-        table[i] = fact_word(six(s, FACT_BYTES * i), partners);
-        i += 1;
-    }
 }
 
 // Reads the fact sheet into the table, or gives the number of its first refusal and the count 0.
@@ -123,10 +111,9 @@ pub fn read_facts(s: &[u8], partners: &[u16], table: &mut [u64]) -> SheetRead
     if s.len() > MOST_FACT_BYTES {
         return refused(12);
     }
-    if !all_sound(s) {
+    if !fill_facts(s, partners, table) {
         return refused(13);
     }
-    fill_facts(s, partners, table);
     SheetRead {
         number: 0,
         count: s.len() / FACT_BYTES,
