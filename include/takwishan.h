@@ -18,7 +18,7 @@ extern "C" {
 #endif
 
 /* The version of header and library; CHANGELOG.md says what changed. */
-#define TAKWISHAN_VERSION "0.8.0"
+#define TAKWISHAN_VERSION "0.9.0"
 
 /* The longest sheets, in bytes; a longer one is refused. */
 enum {

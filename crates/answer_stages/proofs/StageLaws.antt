@@ -92,6 +92,16 @@ module _ (p : List ℕ) (rules : List Rule) (q : Query) (terms : ℕ) (s table :
       goes-on room (answersOf (factsAsRead p sheetWidth facts) (unionAsRead p sheetWidth s)) number (unionNumber p rules q terms s) _ r list
       (read .number-is) zero (subst (λ u. GivesFromFacts p facts u terms room r list) (read .union-is zero) g)
 
-pub ruleset factLaws = (needs, rows-there, arity-there, constants-there, facts-refused, facts-within, zeros-there, found-in-range, facts-pass)
+pub ruleset factLaws = (
+  needs,
+  rows-there,
+  arity-there,
+  constants-there,
+  facts-refused,
+  facts-within,
+  zeros-there,
+  found-in-range,
+  facts-pass,
+)
 
 pub ruleset unionLaws = (needs, terms-few, members-there, union-refused, union-passes)

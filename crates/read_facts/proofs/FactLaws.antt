@@ -130,7 +130,9 @@ module _ (x f : ℕ) (w : Widened x f) where
   unfolding factSound
   widened-whole sound = record {
     zeros = w .zeros-are ∙ eqb-true (factZeros sheetWidth x) 0 (is-true (eqb (factZeros sheetWidth x) 0) (both .0));
-    empty = λ z. w .second-is ∙ eqb-true (factSecond sheetWidth x) 0 (is-true (eqb (factSecond sheetWidth x) 0) (second (sym (w .kind-is) ∙ z)));
+    empty = λ z.
+        w .second-is
+        ∙ eqb-true (factSecond sheetWidth x) 0 (is-true (eqb (factSecond sheetWidth x) 0) (second (sym (w .kind-is) ∙ z)));
     first-low = rw (w .first-is) (omega arith);
     second-low = rw (w .second-is) (omega arith);
   }
@@ -206,7 +208,8 @@ pub record Filling (ps s table₀ table : List ℕ) (i : ℕ) : Type 0 where
   pub same-length : length table ≡ length table₀
   pub room : factCount s ≤ length table
   pub words : FactWords table i
-  pub tested : all (factSound sheetWidth) (left (recordBytes sheetWidth) s 0 (factCount s) i) ≡ all (factSound sheetWidth) (factRecords sheetWidth s)
+  pub tested : all (factSound sheetWidth) (left (recordBytes sheetWidth) s 0 (factCount s) i)
+      ≡ all (factSound sheetWidth) (factRecords sheetWidth s)
   pub so-far : map wordFact (take i table) ++ factsLeft ps s i ≡ map (factRead ps) (factRecords sheetWidth s)
 
 module _ (ps s table₀ : List ℕ) where
@@ -241,7 +244,9 @@ module _ (ps s table₀ : List ℕ) where
         room = rw (length-set table i v) (f .room);
         words = word-more table i v (f .words) (omega (arith, f .room)) whole;
         tested = test-passed (factSound sheetWidth) (recordBytes sheetWidth) s 0 (factCount s) i _ (f .tested) h x r e here t;
-        so-far = fill-goes-on wordFact (factRead ps) (recordBytes sheetWidth) s 0 (factCount s) table i _ (f .so-far) x v h (f .room) word here;
+        so-far =
+            fill-goes-on wordFact (factRead ps) (recordBytes sheetWidth) s 0 (factCount s) table i _ (f .so-far) x v h (f .room) word
+            here;
       }
 
 pub unless-sound : (ps s table : List ℕ) → false ≡ true → HoldsFacts ps s table

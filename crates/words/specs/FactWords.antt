@@ -1,5 +1,6 @@
 -- A fact's word bit for bit: what its fields do not say is zero, so that two such words are one fact exactly where they are one number
--- (Laws/WholeFacts). 02, T-03: "take a record, as read, as one 64-bit word and compare predicate and first object together" (Laws/FactHeads).
+-- (Laws/WholeFacts). And several fields as one number, for 02's T-03: "take a record, as read, as one 64-bit word and compare predicate
+-- and first object together" (Laws/FactHeads).
 use mathlib.Core.Path.{_≡_}
 use Prim.Native.Nat.{ℕ, _+_, _*_, _/_, _%_, _^_, _<_}
 use mathlib.Core.List.{List}

@@ -38,7 +38,8 @@ module _ (w f : ℕ) where
 
   pub head-is : (predicate first : ℕ) → first < 2 ^ w
       → (headOf w predicate first ≡ factHead w f) ↔ ((predicate ≡ factPredicate w f) × (first ≡ factFirst w f))
-  head-is predicate first fits = rw (← head-parts) (both-equal w predicate first (factPredicate w f) (factFirst w f) fits (field-fits w w f))
+  head-is predicate first fits =
+      rw (← head-parts) (both-equal w predicate first (factPredicate w f) (factFirst w f) fits (field-fits w w f))
 
   module _ (zeros : factZeros w f ≡ 0) where
     predicate-parts : predicateOf (factKind w f) (factName w f) ≡ factPredicate w f
