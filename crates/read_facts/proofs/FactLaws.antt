@@ -26,7 +26,6 @@ use Rattle.sheets.specs.Partners.{isHigher, lower, atomAsRead}
 use Rattle.sheets.specs.Reading.{factsAsRead}
 use Rattle.sheets.specs.Refusals.{factRefusals, numberOf}
 use Rattle.sheets.specs.Tests.{factSound, refuses12, refuses13}
-use Rattle.sheets.specs.Laws.Tests.{eqb-comm}
 use Rattle.sheets.specs.Laws.RecordLoops.{Nth, left, rowLaws, row-length, test-begins, test-ends, test-passed, test-failed, fill-begins}
 use Rattle.sheets.specs.Laws.RecordLoops.{fill-goes-on, fill-ends, no-multiple, too-long, unsound-record, no-refusal}
 use Rattle.read_records.specs.ReadIntoLaws.{sheet-refused, sheet-read}
