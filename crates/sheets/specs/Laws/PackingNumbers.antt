@@ -12,6 +12,7 @@ use lib.Dec.{T, eqb, ltb, ltb→lt, lt→ltb, lit<}
 use Rattle.theory.specs.Lists.{pick}
 use Rattle.theory.specs.Syntax.{Term, var, const, Atom, concept, role, Basic, named, has, hasInverse, Rule, conceptInclusion, roleInclusion}
 use Rattle.theory.specs.Laws.Options.{T-and, T-eqb}
+use Rattle.words.specs.Laws.Fields.{field-below}
 use Rattle.words.specs.Records.{field, isRule, basicOf, ruleIn, termOf, atomOf, factOf, stepOf}
 use Rattle.words.specs.Limits.{sheetWidth}
 use Rattle.sheets.specs.Tests.{termSound, atomSound, factSound}
@@ -98,9 +99,6 @@ fields-after x (f ∷ fs) h =
 pub fields-again : (x : ℕ) (fs : List (ℕ × ℕ)) → x < 2 ^ bits fs → Has x fs → fieldsNumber fs ≡ x
 unfolding fieldsNumber
 fields-again x fs l h = ap (λ a. bitsAfter a fs) (sym (div-eq-of-lt l)) ∙ fields-after x fs h
-
-pub field-below : (below width x : ℕ) → field below width x < 2 ^ width
-field-below below width x = mod-lt (x / 2 ^ below) (pow-pos width)
 
 pub fields-fit : (x : ℕ) (fs : List (ℕ × ℕ)) → Has x fs → Fit fs
 fields-fit x [] h = tt

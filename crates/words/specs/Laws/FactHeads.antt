@@ -1,31 +1,14 @@
 -- 02, T-03: "Two words without their second objects are equal exactly when kind, number and first object all are." Over the width w of an
 -- object's number, for words whose three zero bits are zero.
-use mathlib.Core.Path.{_≡_, sym, ap, ap₂, _∙_}
+use mathlib.Core.Path.{_≡_, sym, ap, _∙_}
 use mathlib.Core.Logic.{_↔_}
-use Prim.Native.Nat.{ℕ, _+_, _*_, _/_, _%_, _^_, _<_}
-use native.Mathlib.Nat.{mod-lt}
+use Prim.Native.Nat.{ℕ, _+_, _*_, _^_, _<_}
 use native.Mathlib.Omega.{arith}
-use lib.Pow.{pow-pos, shr-shr, high, low, mod-pow-add}
 use mathlib.Core.List.{List}
 use Rattle.words.specs.FactWords.{factHead, factPredicate, predicateOf, headOf, without, FactWords, ZeroBits}
+use Rattle.words.specs.Laws.Fields.{field-split, field-below, both-equal}
 use Rattle.words.specs.Limits.{wordWidth, wordObjectBound}
 use Rattle.words.specs.Records.{field, factKind, factZeros, factName, factFirst}
-
--- ---- a field is its upper bits and its lower ones
-
-field-split : (below m n x : ℕ) → field below (m + n) x ≡ field (below + n) m x * 2 ^ n + field below n x
-field-split below m n x =
-    mod-pow-add (x / 2 ^ below) m n ∙ ap (λ y. y % 2 ^ m * 2 ^ n + field below n x) (shr-shr x below n)
-
-field-fits : (below width x : ℕ) → field below width x < 2 ^ width
-field-fits below width x = mod-lt (x / 2 ^ below) (pow-pos width)
-
--- two numbers, each put above one that fits in n bits
-both-equal : (n a b a′ b′ : ℕ) → b < 2 ^ n → b′ < 2 ^ n → (a * 2 ^ n + b ≡ a′ * 2 ^ n + b′) ↔ ((a ≡ a′) × (b ≡ b′))
-both-equal n a b a′ b′ l l′ = (
-  λ e. (sym (high a n l) ∙ ap (λ x. x / 2 ^ n) e ∙ high a′ n l′, sym (low a n l) ∙ ap (λ x. x % 2 ^ n) e ∙ low a′ n l′),
-  λ e. ap₂ (λ x y. x * 2 ^ n + y) (e .0) (e .1),
-)
 
 -- ---- the head is predicate and first object, the predicate kind and number
 
@@ -39,7 +22,7 @@ module _ (w f : ℕ) where
   pub head-is : (predicate first : ℕ) → first < 2 ^ w
       → (headOf w predicate first ≡ factHead w f) ↔ ((predicate ≡ factPredicate w f) × (first ≡ factFirst w f))
   head-is predicate first fits =
-      rw (← head-parts) (both-equal w predicate first (factPredicate w f) (factFirst w f) fits (field-fits w w f))
+      rw (← head-parts) (both-equal w predicate first (factPredicate w f) (factFirst w f) fits (field-below w w f))
 
   module _ (zeros : factZeros w f ≡ 0) where
     predicate-parts : predicateOf (factKind w f) (factName w f) ≡ factPredicate w f
@@ -52,14 +35,14 @@ module _ (w f : ℕ) where
         → (predicateOf kind name ≡ factPredicate w f) ↔ ((kind ≡ factKind w f) × (name ≡ factName w f))
     predicate-is kind name fits =
         rw (← predicate-parts)
-        (both-equal 15 kind name (factKind w f) (factName w f) (omega arith) (omega (arith, field-fits (2 * w) 12 f)))
+        (both-equal 15 kind name (factKind w f) (factName w f) (omega arith) (omega (arith, field-below (2 * w) 12 f)))
 
 -- ---- 02's law
 
 module _ (w f g : ℕ) (zf : factZeros w f ≡ 0) (zg : factZeros w g ≡ 0) where
   pub predicates-equal : (factPredicate w f ≡ factPredicate w g) ↔ ((factKind w f ≡ factKind w g) × (factName w f ≡ factName w g))
   predicates-equal =
-      rw (← predicate-parts w f zf) (predicate-is w g zg (factKind w f) (factName w f) (field-fits (2 * w) 12 f))
+      rw (← predicate-parts w f zf) (predicate-is w g zg (factKind w f) (factName w f) (field-below (2 * w) 12 f))
 
   pub heads-equal : (factHead w f ≡ factHead w g)
       ↔ ((factKind w f ≡ factKind w g) × (factName w f ≡ factName w g) × (factFirst w f ≡ factFirst w g))
@@ -69,7 +52,7 @@ module _ (w f g : ℕ) (zf : factZeros w f ≡ 0) (zg : factZeros w g ≡ 0) whe
   )
     where
       split : (factHead w f ≡ factHead w g) ↔ ((factPredicate w f ≡ factPredicate w g) × (factFirst w f ≡ factFirst w g))
-      split = rw (← head-parts w f) (head-is w g (factPredicate w f) (factFirst w f) (field-fits w w f))
+      split = rw (← head-parts w f) (head-is w g (factPredicate w f) (factFirst w f) (field-below w w f))
 
 -- ---- in the words that the code works on
 
