@@ -30,6 +30,16 @@ fn renaming(archive: &Path) -> String {
         .collect()
 }
 
+/// The wrapper's calls of the library, by the new names: what is unsafe stands there and nowhere else. (A file that is taken into a
+/// module cannot begin with a comment for that module.)
+fn calls(wrapper: &Path) -> String {
+    let text = std::fs::read_to_string(wrapper).expect("the wrapper stands in the repository");
+    let lines = text.lines().filter(|line| !line.starts_with("//!"));
+    lines
+        .map(|line| line.replace("takwishan_", "before_takwishan_") + "\n")
+        .collect()
+}
+
 fn main() {
     println!("cargo:rustc-check-cfg=cfg(before)");
     println!("cargo:rerun-if-changed=build.rs");
@@ -46,6 +56,9 @@ fn main() {
         &archive,
         &folder.join("libbefore.a"),
     ]));
+    let wrapper = Path::new("../../rust/src/linked.rs");
+    println!("cargo:rerun-if-changed={}", wrapper.display());
+    std::fs::write(folder.join("linked.rs"), calls(wrapper)).expect("the folder can be written");
     println!("cargo:rustc-link-search=native={}", folder.display());
     println!("cargo:rustc-link-lib=static=before");
     println!("cargo:rustc-cfg=before");

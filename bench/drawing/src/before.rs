@@ -1,4 +1,4 @@
-//! An earlier library, if the build was given one (`build.rs`).
+//! An earlier library, if the build was given one (`build.rs`), through this tree's wrapper.
 use crate::proved::Library;
 
 #[cfg(not(before))]
@@ -6,70 +6,33 @@ pub const LIBRARY: Option<Library> = None;
 
 #[cfg(before)]
 pub const LIBRARY: Option<Library> = Some(Library {
-    answer: linked::answer,
-    check: linked::check,
+    answer: calls::answer,
+    check: calls::check,
 });
 
+/// The wrapper's calls, by the earlier library's new names; not all are used.
 #[cfg(before)]
+#[allow(dead_code)]
 mod linked {
+    include!(concat!(env!("OUT_DIR"), "/linked.rs"));
+}
+
+#[cfg(before)]
+mod calls {
+    use super::linked;
     use crate::cases::Case;
     use crate::Drawn;
 
-    extern "C" {
-        fn before_takwishan_check(
-            rules: *const u8,
-            rules_length: usize,
-            question: *const u8,
-            question_length: usize,
-            union: *const u8,
-            union_length: usize,
-        ) -> u32;
-
-        fn before_takwishan_answer(
-            rules: *const u8,
-            rules_length: usize,
-            question: *const u8,
-            question_length: usize,
-            union: *const u8,
-            union_length: usize,
-            facts: *const u8,
-            facts_length: usize,
-            list: *mut u8,
-            list_length: usize,
-        ) -> takwishan::Answers;
-    }
-
     pub fn check(case: &Case) -> u32 {
-        // Safety: each pointer is that of a slice of the length beside it, and the function only reads them.
-        unsafe {
-            before_takwishan_check(
-                case.rules.as_ptr(),
-                case.rules.len(),
-                case.question.as_ptr(),
-                case.question.len(),
-                case.union.as_ptr(),
-                case.union.len(),
-            )
-        }
+        linked::check(&case.rules, &case.question, &case.union)
     }
 
     pub fn answer(case: &Case, list: &mut [u8]) -> Drawn {
-        // Safety: each pointer is that of a slice of the length beside it. The function writes only the list, which is borrowed for
-        // itself alone.
-        let answers = unsafe {
-            before_takwishan_answer(
-                case.rules.as_ptr(),
-                case.rules.len(),
-                case.question.as_ptr(),
-                case.question.len(),
-                case.union.as_ptr(),
-                case.union.len(),
-                case.facts.as_ptr(),
-                case.facts.len(),
-                list.as_mut_ptr(),
-                list.len(),
-            )
-        };
-        answers.into()
+        let linked::Answers { number, count } =
+            linked::answer(&case.rules, &case.question, &case.union, &case.facts, list);
+        Drawn {
+            number,
+            count: count as usize,
+        }
     }
 }
