@@ -39,6 +39,7 @@ pub mod Chase
 pub mod LostTags
 pub mod Matches
 pub mod Answers
+pub mod Finding
 -- both readers agree
 pub mod Soundness
 pub mod Depth
