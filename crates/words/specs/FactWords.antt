@@ -45,3 +45,7 @@ without bound f = f % 2 ^ 64 / bound
 -- the three zero bits of each of a table's first n words are zero
 pub record ZeroBits (table : List ℕ) (n : ℕ) : Type 0 where
   pub each : (i : ℕ) → i < n → factZeros wordWidth (getD table i 0) ≡ 0
+
+-- the word with its two objects exchanged: its predicate, its second object, its first
+abbrev pub exchanged : ℕ → ℕ → ℕ
+exchanged w f = headOf w (headOf w (factPredicate w f) (factSecond w f)) (factFirst w f)
