@@ -7,3 +7,4 @@ pub mod Scans
 pub mod WholeFacts
 pub mod Fields
 pub mod FactHeads
+pub mod Exchanged

@@ -1,7 +1,7 @@
 // The fields of a fact's word, and its predicate and its head as one number each.
 ghost use mathlib.Core.Path.{_≡_};
 ghost use Prim.Native.Nat.{_^_, _<_};
-ghost use Rattle.words.specs.FactWords.{predicateOf, headOf};
+ghost use Rattle.words.specs.FactWords.{predicateOf, headOf, exchanged as exchangedIn};
 ghost use Rattle.words.specs.Limits.{wordWidth, nameBound, wordObjectBound};
 ghost use Rattle.words.specs.Records.{factFirst, factSecond};
 
@@ -32,4 +32,11 @@ pub fn head(predicate: u64, first: u64) -> u64
     ensures { λ r. ⌜ r ≡ headOf wordWidth predicate first ⌝ }
 {
     predicate * 0x1000000 + first
+}
+
+// The word with its two objects exchanged.
+pub fn exchanged(f: u64) -> u64
+    ensures { λ r. ⌜ r ≡ exchangedIn wordWidth f ⌝ }
+{
+    (f / 0x1000000000000 * 0x1000000 + f % 0x1000000) * 0x1000000 + f / 0x1000000 % 0x1000000
 }

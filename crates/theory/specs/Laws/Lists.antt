@@ -244,13 +244,13 @@ module _ {X Y : Type 0} where
   flatMap-of f {y = y} (List·Memᴰ·head {xs = zs} e) t = Memᴰ·append-left (flatMap f zs) (subst (λ z. y ∈ f z) e t)
   flatMap-of f (List·Memᴰ·tail {x = z} m) t = Memᴰ·append-right (f z) (flatMap-of f m t)
 
-mem-numbers : (start n i : ℕ) → start ≤ i → i < start + n → i ∈ numbers start n
+pub mem-numbers : (start n i : ℕ) → start ≤ i → i < start + n → i ∈ numbers start n
 unfolding numbers
 mem-numbers start zero i h k = absurd (omega arith)
 mem-numbers start (suc n) i h k =
     elim (eq-or-lt-of-le h) [ inl e ↦ List·Memᴰ·head (sym e) | inr l ↦ List·Memᴰ·tail (mem-numbers (suc start) n i l (omega arith)) ]
 
-numbers-found : (start n i : ℕ) → i ∈ numbers start n → (start ≤ i) × (i < start + n)
+pub numbers-found : (start n i : ℕ) → i ∈ numbers start n → (start ≤ i) × (i < start + n)
 unfolding numbers
 numbers-found start zero i m = absurd (List·Memᴰ·not-nil m)
 numbers-found start (suc n) i (List·Memᴰ·head e) = (omega arith, omega arith)

@@ -1,19 +1,19 @@
 -- Loops whose index goes from place to place. What is left, the places from i to below n, decides: a loop's invariant says that
 -- these give what all give. A place is a number; a record in the first n words of a table is looked at by its place.
 use mathlib.Core.Path.{_≡_, refl, sym, ap, ap₂, _∙_}
-use mathlib.Core.Logic.{_≢_}
+use mathlib.Core.Logic.{_≢_, _↔_}
 use Prim.Native.Nat.{ℕ, zero, suc, _+_, _-_, _≤_, _<_}
 use native.Mathlib.Nat.{add-zero, zero-add}
 use native.Mathlib.Numerals.{add-one}
 use native.Mathlib.Omega.{arith}
 use mathlib.Core.Bool.{Bool, true, false, _&&_, _||_, and-false}
 use mathlib.Core.Option.{none, some}
-use mathlib.Core.List.{List, [], _∷_, _++_, map, map-map, map-append}
+use mathlib.Core.List.{List, [], _∷_, _++_, map, map-map, map-append, Memᴰ·cast, Memᴰ·map, Memᴰ·of-map}
 use lib.ListN.{length, getElem?, getD, take, drop, length-take, length-map, drop-of-length-le}
 use lib.Seq.{drop-cons, take-suc, length-take-le}
 use borrow.Author.Count.{below-more}
-use Rattle.theory.specs.Lists.{At, any, all, pairwise, numbers}
-use Rattle.theory.specs.Laws.Lists.{any-map}
+use Rattle.theory.specs.Lists.{_∈_, At, any, all, pairwise, numbers}
+use Rattle.theory.specs.Laws.Lists.{any-map, mem-along, mem-numbers, numbers-found}
 use Rattle.theory.specs.Laws.Counting.{total}
 
 -- ---- the places that are left
@@ -226,6 +226,21 @@ module _ {X : Type 0} (f : ℕ → X) (words : List ℕ) (n : ℕ) where
     records-cons i l =
         ap (drop i) records-listed ∙ places-cons (λ k. f (getD words k 0)) n i l
         ∙ ap (λ xs. f (getD words i 0) ∷ drop (i + 1) xs) (sym records-listed)
+
+    -- those from place i on
+    pub record-mem : (i : ℕ) (x : X) → (x ∈ drop i (map f (take n words))) ↔ ((k : ℕ) × (i ≤ k) × (k < n) × (f (getD words k 0) ≡ x))
+    record-mem i x = (
+      λ m. (let (k, j, e) = Memᴰ·of-map g (numbers i (n - i)) (mem-along left m) in
+          let b = numbers-found i (n - i) k j in
+          (k, b .0, omega (arith, b .0, b .1), e)),
+      λ (k, h, l, e). mem-along (sym left) (Memᴰ·cast (sym e) (Memᴰ·map g (mem-numbers i (n - i) k h (omega arith)))),
+    )
+      where
+        g : ℕ → X
+        g k = f (getD words k 0)
+
+        left : drop i (map f (take n words)) ≡ map g (numbers i (n - i))
+        left = ap (drop i) records-listed ∙ places-from g n i
 
     pub some-record : (p : X → Bool) → someFrom (testAt p f words) 0 n ≡ any p (map f (take n words))
     some-record p = some-place (λ k. f (getD words k 0)) n p ∙ ap (any p) (sym records-listed)

@@ -13,7 +13,7 @@ use Rattle.words.specs.Records.{field, factKind, factZeros, factName, fa
 -- ---- the head is predicate and first object, the predicate kind and number
 
 module _ (w f : ℕ) where
-  head-parts : headOf w (factPredicate w f) (factFirst w f) ≡ factHead w f
+  pub head-parts : headOf w (factPredicate w f) (factFirst w f) ≡ factHead w f
   head-parts = ap (λ b. headOf w (field b 16 f) (factFirst w f)) two ∙ sym (field-split w 16 w f)
     where
       two : 2 * w ≡ w + w
