@@ -13,7 +13,7 @@ use mathlib.Core.List.{Memᴰ·append-right, Memᴰ·cast, Memᴰ·map, Memᴰ·
 use lib.Dec.{T}
 use lib.ListN.{length, getElem?, getD, set, length-map}
 use Rattle.theory.specs.Lists.{_∈_, At, Unrepeated, pick, any, all, without, once, pairwise, firstSome, toList, isSome, numbers}
-use Rattle.theory.specs.Laws.Options.{T-and, T-or, either, pick-false, some-inj, none≢some}
+use Rattle.theory.specs.Laws.Options.{T-and, T-or, same-test, either, pick-false, some-inj, none≢some}
 
 -- ---- membership
 
@@ -53,6 +53,14 @@ module _ {X : Type 0} where
 
   pub any-iff : (p : X → Bool) (xs : List X) → T (any p xs) ↔ ((x : X) × (x ∈ xs) × T (p x))
   any-iff p xs = (any-found p xs, λ w. any-of p (w .1) (w .2))
+
+  -- which elements there are decides, not their order
+  pub any-members : (p : X → Bool) (xs ys : List X) → ((x : X) → (x ∈ xs) ↔ (x ∈ ys)) → any p xs ≡ any p ys
+  any-members p xs ys same =
+      same-test (any p xs) (any p ys) (
+        λ t. (let w = any-iff p xs .0 t in any-iff p ys .1 (w .0, same (w .0) .0 (w .1), w .2)),
+        λ t. (let w = any-iff p ys .0 t in any-iff p xs .1 (w .0, same (w .0) .1 (w .1), w .2)),
+      )
 
   -- a test that decides P finds an element of which P holds
   pub any-decides : (test : X → Bool) (P : X → Type 0) (xs : List X) → ((x : X) → T (test x) ↔ P x) → T (any test xs)
