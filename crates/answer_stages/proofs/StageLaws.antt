@@ -1,14 +1,21 @@
 -- Facts and members as they were read are what drawing asks for, and a refusal of theirs is what the call gives.
-use mathlib.Core.Path.{_≡_, subst}
-use Prim.Native.Nat.{ℕ, _≤_, _<_}
+use mathlib.Core.Path.{_≡_, refl, sym, ap, _∙_, subst}
+use mathlib.Core.Logic.{inl, inr}
+use Prim.Native.Nat.{ℕ, zero, suc, _≤_, _<_}
 use native.Mathlib.Omega.{arith}
+use mathlib.Core.Bool.{Bool, true, false}
+use mathlib.Core.Option.{none, some}
 use mathlib.Core.List.{List}
+use lib.Dec.{T}
 use lib.ListN.{length, replicate}
 use borrow.Author.Needs.{needs}
-use Rattle.theory.specs.Lists.{_∈_}
+use Rattle.theory.specs.Lists.{_∈_, At, pick}
+use Rattle.theory.specs.Refusals.{firstRefusal, numberOf}
 use Rattle.theory.specs.Syntax.{const, Member, Rule, Query, UCQ}
+use Rattle.theory.specs.Union.{Accepted, refuses7, refuses8, refuses9, refuses10, refuses11, check}
 use Rattle.theory.specs.Evaluation.{answersOf}
-use Rattle.theory.specs.Laws.Lists.{mem-along}
+use Rattle.theory.specs.Laws.Lists.{mem-along, at-unique}
+use Rattle.theory.specs.Laws.Union.{check-accepts}
 use Rattle.words.specs.FactWords.{ZeroBits}
 use Rattle.words.specs.Laws.FactHeads.{zero-bits}
 use Rattle.words.specs.Limits.{sheetWidth, objectBound, mostFacts}
@@ -16,11 +23,14 @@ use Rattle.words.specs.Words.{unionIn, factsIn, Small}
 use Rattle.words.specs.Rows.{Rows, Arity}
 use Rattle.words.specs.declared.QueryWords.{QueryWords}
 use Rattle.sheets.specs.Reading.{unionAsRead, factsAsRead}
+use Rattle.sheets.specs.Tests.{refuses6}
 use Rattle.sheets.specs.Laws.ObjectRange.{facts-in-range}
+use Rattle.sheets.specs.Laws.UnionRefusals.{sound-members}
 use Rattle.read_facts.specs.FactSheets.{FactsRead}
 use Rattle.check_sheet.specs.Members.{Members, unionNumber, MembersRead}
 use Rattle.answer_search.specs.Search.{TuplesInRange}
 use Rattle.answer_search.specs.Laws.InRange.{tuples-in-range}
+use Rattle.answer_evaluate.specs.Merges.{SafeMembers, MergeOf, MergesMade}
 use Rattle.answer_draw.specs.declared.Answers.{Answers}
 use Rattle.answer_draw.specs.Gives.{roomNumber, GivesAnswers}
 use Rattle.answer_draw.specs.GivesLaws.{refused-first, goes-on}
@@ -49,6 +59,9 @@ module _ (p s words : List ℕ) (number count : ℕ) (read : FactsRead p s words
   facts-refused room terms union r list h g =
       refused-first room (answersOf (factsAsRead p sheetWidth s) union) number (factsNumber s) _ r list (read .sheet .number-is) h g
 
+  pub facts-few : count ≤ mostFacts
+  facts-few = read .sheet .few
+
   pub facts-within : (size : ℕ) → length words ≡ size → size ≡ mostFacts → count ≤ length words
   facts-within size e d = let l : count ≤ mostFacts = read .sheet .few in omega arith
 
@@ -71,6 +84,39 @@ module _ (p s words : List ℕ) (number count : ℕ) (read : FactsRead p s words
 
 -- ---- the union, as it was read
 
+-- no number, no refusal
+check-passed : (rules : List Rule) (q : Query) (union : UCQ) → numberOf (check rules q union) ≡ 0 → check rules q union ≡ none
+unfolding check firstRefusal numberOf
+check-passed rules q union =
+    go (refuses7 rules q union) (refuses8 rules q union) (refuses9 rules q union) (refuses10 rules q union) (refuses11 rules q union)
+  where
+    go : (a b c d e : Bool)
+        → numberOf (pick a (some 7) (pick b (some 8) (pick c (some 9) (pick d (some 10) (pick e (some 11) none))))) ≡ 0
+        → pick a (some 7) (pick b (some 8) (pick c (some 9) (pick d (some 10) (pick e (some 11) none)))) ≡ none
+    go true b c d e h = absurd (omega arith)
+    go false true c d e h = absurd (omega arith)
+    go false false true d e h = absurd (omega arith)
+    go false false false true e h = absurd (omega arith)
+    go false false false false true h = absurd (omega arith)
+    go false false false false false h = refl
+
+union-passed : (b : Bool) (k : ℕ) → pick b 6 k ≡ 0 → (¬ T b) × (k ≡ 0)
+union-passed true k e = absurd (omega arith)
+union-passed false k e = (λ t. t, e)
+
+-- a merge is one of an accepted union's steps
+merges-made : (rules : List Rule) (q : Query) (union : UCQ) → Accepted rules q union → MergesMade union
+merges-made rules q union ok = record { each = made }
+  where
+    made : (k : ℕ) (m : Member) → At union k m → m .step .kind ≡ 2 → MergeOf union k m
+    made zero m at e = absurd (let z = ap (λ (n : Member). n .step .kind) (at-unique union 0 at (ok .first)) in omega arith)
+    made (suc k) m at e =
+        let (r, (earlier, p, there, how), same) = ok .later (suc k) m (omega arith) at in
+        elim how [
+          | inl one ↦ absurd (let o = one .0 in omega arith)
+          | inr two ↦ (p, r, earlier, there, two .1, same)
+        ]
+
 pub terms-few : (q : QueryWords) → Small q → q .terms ≤ 4
 terms-few q small = small .few-terms
 
@@ -78,6 +124,19 @@ module _ (p : List ℕ) (rules : List Rule) (q : Query) (terms : ℕ) (s table :
     (read : MembersRead p rules q terms s table number count) where
   pub members-there : number ≡ 0 → Members table count terms
   members-there zero = read .members zero
+
+  passed : number ≡ 0 → (¬ T (refuses6 p sheetWidth terms s)) × (numberOf (check rules q (unionAsRead p sheetWidth s)) ≡ 0)
+  passed zero =
+      union-passed (refuses6 p sheetWidth terms s) (numberOf (check rules q (unionAsRead p sheetWidth s))) (sym (read .number-is) ∙ zero)
+
+  pub safe-there : number ≡ 0 → SafeMembers (unionIn table count)
+  safe-there zero = subst SafeMembers (sym (read .union-is zero))
+      (record { each = λ m n. sound-members p sheetWidth terms s (passed zero .0) m n .safe })
+
+  pub merges-there : number ≡ 0 → MergesMade (unionIn table count)
+  merges-there zero = subst MergesMade (sym (read .union-is zero))
+      (merges-made rules q (unionAsRead p sheetWidth s)
+      (check-accepts rules q (unionAsRead p sheetWidth s) .0 (check-passed rules q (unionAsRead p sheetWidth s) (passed zero .1))))
 
   pub union-refused : (facts : List ℕ) (room : ℕ) (r : Answers) (list : List ℕ) → (number ≡ 0 → ⊥)
       → (r .number ≡ number) × (r .count ≡ 0) × (list ≡ replicate room 0) → GivesFromUnion p rules q terms s facts room r list
@@ -98,10 +157,11 @@ pub ruleset factLaws = (
   arity-there,
   constants-there,
   facts-refused,
+  facts-few,
   facts-within,
   zeros-there,
   found-in-range,
   facts-pass,
 )
 
-pub ruleset unionLaws = (needs, terms-few, members-there, union-refused, union-passes)
+pub ruleset unionLaws = (needs, terms-few, members-there, safe-there, merges-there, union-refused, union-passes)

@@ -119,11 +119,15 @@ sound-member partners w arity s j ok =
       arity-is = query-arity partners w s (questionStart w s j) ∙ ok .3;
     }
 
-pub sound-union : (partners : List ℕ) (w : ℕ) (s : List ℕ) (q : Query) → ¬ T (refuses6 partners w (length (q .answers)) s)
-    → SoundUnion q (unionAsRead partners w s)
+pub sound-members : (partners : List ℕ) (w arity : ℕ) (s : List ℕ) → ¬ T (refuses6 partners w arity s) → (m : Member)
+    → m ∈ unionAsRead partners w s → SoundQuery arity (m .query)
 unfolding unionAsRead unionOf
-sound-union partners w s q not6 m k =
+sound-members partners w arity s not6 m k =
     let (m′, k′, e) = Memᴰ·of-map (memberAsRead partners) (unionOf w s) k in
     let (j, l, e′) = mem-numbered (memberAt w s) (memberCount s) m′ .0 k′ in
-    subst (λ (n : Member). SoundQuery (length (q .answers)) (n .query)) (ap (memberAsRead partners) e′ ∙ e)
-    (sound-member partners w (length (q .answers)) s j (not6-iff partners w (length (q .answers)) s .0 not6 .3 j l))
+    subst (λ (n : Member). SoundQuery arity (n .query)) (ap (memberAsRead partners) e′ ∙ e)
+    (sound-member partners w arity s j (not6-iff partners w arity s .0 not6 .3 j l))
+
+pub sound-union : (partners : List ℕ) (w : ℕ) (s : List ℕ) (q : Query) → ¬ T (refuses6 partners w (length (q .answers)) s)
+    → SoundUnion q (unionAsRead partners w s)
+sound-union partners w s q = sound-members partners w (length (q .answers)) s
