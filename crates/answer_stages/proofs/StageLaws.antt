@@ -1,20 +1,19 @@
 -- Facts and members as they were read are what drawing asks for, and a refusal of theirs is what the call gives.
 use mathlib.Core.Path.{_≡_, refl, sym, ap, _∙_, subst}
-use mathlib.Core.Logic.{inl, inr}
-use Prim.Native.Nat.{ℕ, zero, suc, _≤_, _<_}
+use Prim.Native.Nat.{ℕ, _≤_, _<_}
 use native.Mathlib.Omega.{arith}
 use mathlib.Core.Bool.{Bool, true, false}
-use mathlib.Core.Option.{none, some}
-use mathlib.Core.List.{List}
+use mathlib.Core.Option.{Option, none, some}
+use mathlib.Core.List.{List, [], _∷_}
 use lib.Dec.{T}
 use lib.ListN.{length, replicate}
 use borrow.Author.Needs.{needs}
-use Rattle.theory.specs.Lists.{_∈_, At, pick}
+use Rattle.theory.specs.Lists.{_∈_, pick}
 use Rattle.theory.specs.Refusals.{firstRefusal, numberOf}
 use Rattle.theory.specs.Syntax.{const, Member, Rule, Query, UCQ}
-use Rattle.theory.specs.Union.{Accepted, refuses7, refuses8, refuses9, refuses10, refuses11, check}
+use Rattle.theory.specs.Union.{refuses7, refuses8, refuses9, refuses10, refuses11, check}
 use Rattle.theory.specs.Evaluation.{answersOf}
-use Rattle.theory.specs.Laws.Lists.{mem-along, at-unique}
+use Rattle.theory.specs.Laws.Lists.{mem-along}
 use Rattle.theory.specs.Laws.Union.{check-accepts}
 use Rattle.words.specs.FactWords.{ZeroBits}
 use Rattle.words.specs.Laws.FactHeads.{zero-bits}
@@ -30,7 +29,8 @@ use Rattle.read_facts.specs.FactSheets.{FactsRead}
 use Rattle.check_sheet.specs.Members.{Members, unionNumber, MembersRead}
 use Rattle.answer_search.specs.Search.{TuplesInRange}
 use Rattle.answer_search.specs.Laws.InRange.{tuples-in-range}
-use Rattle.answer_evaluate.specs.Merges.{SafeMembers, MergeOf, MergesMade}
+use Rattle.answer_evaluate.specs.Merges.{SafeMembers, MergesMade}
+use Rattle.answer_evaluate.specs.MergeLaws.{merges-made}
 use Rattle.answer_draw.specs.declared.Answers.{Answers}
 use Rattle.answer_draw.specs.Gives.{roomNumber, GivesAnswers}
 use Rattle.answer_draw.specs.GivesLaws.{refused-first, goes-on}
@@ -84,6 +84,10 @@ module _ (p s words : List ℕ) (number count : ℕ) (read : FactsRead p s words
 
 -- ---- the union, as it was read
 
+-- the first of five tests
+abbrev firstOf : Bool → Bool → Bool → Bool → Bool → Option ℕ
+firstOf a b c d e = firstRefusal ((7, a) ∷ (8, b) ∷ (9, c) ∷ (10, d) ∷ (11, e) ∷ [])
+
 -- no number, no refusal
 check-passed : (rules : List Rule) (q : Query) (union : UCQ) → numberOf (check rules q union) ≡ 0 → check rules q union ≡ none
 unfolding check firstRefusal numberOf
@@ -91,8 +95,8 @@ check-passed rules q union =
     go (refuses7 rules q union) (refuses8 rules q union) (refuses9 rules q union) (refuses10 rules q union) (refuses11 rules q union)
   where
     go : (a b c d e : Bool)
-        → numberOf (pick a (some 7) (pick b (some 8) (pick c (some 9) (pick d (some 10) (pick e (some 11) none))))) ≡ 0
-        → pick a (some 7) (pick b (some 8) (pick c (some 9) (pick d (some 10) (pick e (some 11) none)))) ≡ none
+        → numberOf (firstOf a b c d e) ≡ 0
+        → firstOf a b c d e ≡ none
     go true b c d e h = absurd (omega arith)
     go false true c d e h = absurd (omega arith)
     go false false true d e h = absurd (omega arith)
@@ -103,19 +107,6 @@ check-passed rules q union =
 union-passed : (b : Bool) (k : ℕ) → pick b 6 k ≡ 0 → (¬ T b) × (k ≡ 0)
 union-passed true k e = absurd (omega arith)
 union-passed false k e = (λ t. t, e)
-
--- a merge is one of an accepted union's steps
-merges-made : (rules : List Rule) (q : Query) (union : UCQ) → Accepted rules q union → MergesMade union
-merges-made rules q union ok = record { each = made }
-  where
-    made : (k : ℕ) (m : Member) → At union k m → m .step .kind ≡ 2 → MergeOf union k m
-    made zero m at e = absurd (let z = ap (λ (n : Member). n .step .kind) (at-unique union 0 at (ok .first)) in omega arith)
-    made (suc k) m at e =
-        let (r, (earlier, p, there, how), same) = ok .later (suc k) m (omega arith) at in
-        elim how [
-          | inl one ↦ absurd (let o = one .0 in omega arith)
-          | inr two ↦ (p, r, earlier, there, two .1, same)
-        ]
 
 pub terms-few : (q : QueryWords) → Small q → q .terms ≤ 4
 terms-few q small = small .few-terms
