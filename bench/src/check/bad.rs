@@ -133,6 +133,33 @@ pub fn concepts(numbering: Numbering) -> Sheet {
     sheet(repeated(rules.collect()), &atoms, numbering)
 }
 
+/// So many concepts, each but the first below the one that `above` says; the first is asked for.
+pub fn taxonomy(names: usize, above: impl Fn(usize) -> usize) -> Sheet {
+    let concept = |i: usize| (0, A + i as u32);
+    let rules = (1..names).map(|i| concept_rule(concept(i), concept(above(i))));
+    let question = Query::new(&[0], &[Atom::concept(A, 0)]);
+    made(
+        &rules.collect::<Vec<Rule>>(),
+        question,
+        Numbering::Kept,
+        MOST_MEMBERS,
+    )
+}
+
+/// Two roles joined, so many names below each and as many rules for others: what a register's question is like.
+pub fn joined(names: u32, others: u32) -> Sheet {
+    let below = |role: u32| (1..names).map(move |i| role_rule(role + i, role, false));
+    let other = (0..others).map(|i| concept_rule((0, 600 + i), (0, 599 + i)));
+    let rules: Vec<Rule> = below(P).chain(below(P + 64)).chain(other).collect();
+    let atoms = [Atom::role(P, 0, 1), Atom::role(P + 64, 1, 2)];
+    made(
+        &rules,
+        Query::new(&[0], &atoms),
+        Numbering::Kept,
+        MOST_MEMBERS,
+    )
+}
+
 type Maker = Box<dyn Fn() -> Sheet>;
 
 /// All of them, with their names.
@@ -195,4 +222,43 @@ pub fn all() -> Vec<(String, Maker)> {
         Box::new(move || concepts(numbering)),
     );
     all
+}
+
+/// Sheets that are not bad, for the check alone: taxonomies, a register's question, and small ones.
+pub fn common() -> Vec<(String, Sheet)> {
+    let half = |i: usize| (i - 1) / 2;
+    let three = [
+        role_rule(P + 1, P, false),
+        concept_rule((0, A), (1, P + 1)),
+        concept_rule((0, A + 1), (1, P + 1)),
+    ];
+    let question = Query::new(&[0], &[Atom::role(P + 1, 0, 1), Atom::role(P, 0, 1)]);
+    let one = [concept_rule((0, A), (1, P))];
+    vec![
+        ("taxonomy, one below each", taxonomy(MOST_MEMBERS, |i| i - 1)),
+        ("taxonomy, two below each", taxonomy(MOST_MEMBERS, half)),
+        ("taxonomy, one level", taxonomy(MOST_MEMBERS, |_| 0)),
+        ("taxonomy, 341 names", taxonomy(341, |i| (i - 1) / 4)),
+        ("taxonomy, 64 names", taxonomy(64, half)),
+        ("taxonomy, 8 names", taxonomy(8, half)),
+        ("joined, 20 names each", joined(20, 400)),
+        ("joined, 8 names each", joined(8, 0)),
+        ("three rules", made(&three, question, Numbering::Kept, 9)),
+        (
+            "one rule",
+            made(
+                &one,
+                Query::new(&[0], &[Atom::role(P, 0, 1)]),
+                Numbering::Kept,
+                9,
+            ),
+        ),
+        (
+            "no rule",
+            made(&[], Query::new(&[0], &[Atom::concept(A, 0)]), Numbering::Kept, 9),
+        ),
+    ]
+    .into_iter()
+    .map(|(name, sheet)| (name.to_string(), sheet))
+    .collect()
 }

@@ -42,11 +42,23 @@ pub struct Measured {
     counts: Counts,
 }
 
+/// A turn on a small sheet has so many calls that it takes about so many seconds.
+const TURN: f64 = 2e-4;
+
 /// What the work gives, and the seconds that it took.
 pub fn seconds<T>(work: impl FnOnce() -> T) -> (f64, T) {
     let begin = processor_time();
     let given = black_box(work());
     (processor_time() - begin, given)
+}
+
+/// What the last of so many calls gives, and the seconds that one took.
+fn several<T>(calls: usize, mut work: impl FnMut() -> T) -> (f64, T) {
+    let (time, given) = seconds(|| {
+        (1..calls).for_each(|_| drop(black_box(work())));
+        work()
+    });
+    (time / calls as f64, given)
 }
 
 /// Both checks on one sheet, taking turns; their numbers must agree.
@@ -65,11 +77,16 @@ pub fn measured(name: &str, sheet: &Sheet, repetitions: usize) -> Measured {
         counts: Counts::default(),
     };
     let mut spent = 0.0;
+    let mut calls = 1;
     for repetition in 0..repetitions {
-        let mut counts = Counts::default();
-        let (proved, number) = seconds(|| proved::check(&rules, &question, &union));
-        let (plain, other) = seconds(|| check(&rules, &question, &union, &mut counts));
+        let (proved, number) = several(calls, || proved::check(&rules, &question, &union));
+        let (plain, (other, counts)) = several(calls, || {
+            let mut counts = Counts::default();
+            let number = check(&rules, &question, &union, &mut counts);
+            (number, counts)
+        });
         assert_eq!(number, other, "the checks differ on {name}");
+        calls = 1 + (TURN / proved) as usize;
         best.number = number;
         best.proved = best.proved.min(proved);
         best.plain = best.plain.min(plain);
@@ -86,7 +103,7 @@ impl Measured {
     fn print(&self) {
         let counts = &self.counts;
         println!(
-            "{:<34} {:>4} {:>4} {:>10.2} {:>10.2} {:>6.2} {:>9} {:>9} {:>8} {:>11} {:>7.1}",
+            "{:<34} {:>4} {:>4} {:>10.4} {:>10.4} {:>6.2} {:>9} {:>9} {:>8} {:>11} {:>7.1}",
             self.name,
             self.members,
             self.number,
@@ -125,6 +142,12 @@ pub fn run() {
             measured(&name, &sheet(), MOST_REPETITIONS)
         })
         .collect();
+    let common = bad::common();
+    all.extend(
+        common
+            .iter()
+            .map(|(name, sheet)| measured(name, sheet, 10 * MOST_REPETITIONS)),
+    );
     all.sort_by(|a, b| b.proved.total_cmp(&a.proved));
     all.iter().for_each(Measured::print);
 }

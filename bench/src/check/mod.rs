@@ -141,15 +141,15 @@ fn check_union(rules: &[Rule], question: &Query, members: &[Member], counts: &mu
     {
         return 7;
     }
-    if (1..members.len()).any(|k| yielded(rules, members, k).is_none()) {
-        return 8;
-    }
-    let unlike = |k: usize| {
-        let result = yielded(rules, members, k);
-        result.is_some_and(|query| !alike(&query, &members[k].query, counts))
-    };
-    if (1..members.len()).any(unlike) {
-        return 9;
+    // 8 and 9 in one pass where neither applies; 8, over the whole union, comes first
+    for k in 1..members.len() {
+        let Some(query) = yielded(rules, members, k) else {
+            return 8;
+        };
+        if !alike(&query, &members[k].query, counts) {
+            let fails = |k: usize| yielded(rules, members, k).is_none();
+            return if (k + 1..members.len()).any(fails) { 8 } else { 9 };
+        }
     }
     let keys = members.iter().map(|member| key_of(&member.query)).collect();
     let union = Union {

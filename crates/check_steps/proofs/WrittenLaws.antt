@@ -1,21 +1,22 @@
 -- Refusals 8 and 9: what the step beside a member yields.
 use mathlib.Core.Path.{_≡_, refl, sym, ap, _∙_, subst}
-use Prim.Native.Nat.{ℕ, zero, suc, _-_, _*_, _≤_, _<_}
+use Prim.Native.Nat.{ℕ, zero, suc, _+_, _-_, _*_, _≤_, _<_}
 use native.Mathlib.Nat.{add-zero}
 use native.Mathlib.Omega.{arith}
 use mathlib.Core.Bool.{Bool, true, false, not, _||_}
 use mathlib.Core.Option.{Option, none, some}
-use mathlib.Core.List.{List, map}
+use mathlib.Core.List.{List, [], _∷_, map}
 use lib.ListN.{length, getD, drop}
 use lib.Seq.{getD-drop}
 use borrow.Author.Needs.{needs}
 use borrow.Author.Tests.{eq-eqb, ne-eqb, lt-ltb, le-ltb}
 use Rattle.theory.specs.Lists.{At, any, guard, isSome, numbers}
+use Rattle.theory.specs.Refusals.{firstRefusal, numberOf}
 use Rattle.theory.specs.Syntax.{Rule, Query, Member, UCQ}
 use Rattle.theory.specs.Rewriting.{ruleStep, mergeStep}
 use Rattle.theory.specs.Renaming.{alike}
 use Rattle.theory.specs.Union.{yield, yieldsUnlike, anyFrom, refuses8, refuses9}
-use Rattle.theory.specs.Laws.Scans.{someFrom, numberScans}
+use Rattle.theory.specs.Laws.Scans.{someFrom, numberScans, some-later, some-found, some-none}
 use Rattle.words.specs.Records.{ruleIn, stepKind, stepParent, stepAtom, stepOther, stepOf}
 use Rattle.words.specs.Words.{queryOf, Small, rulesIn, memberOf, unionIn}
 use Rattle.words.specs.declared.QueryWords.{QueryWords}
@@ -24,7 +25,7 @@ use Rattle.words.specs.Laws.Rows.{rows, union-at, union-from, rule-there, no-ru
 use Rattle.query_steps.specs.declared.steps.QueryFound.{QueryFound}
 use Rattle.query_steps.specs.StepResults.{queryFound}
 use Rattle.query_steps.proofs.StepLaws.{nothing-found}
-use Rattle.check_steps.specs.Written.{stepFrom}
+use Rattle.check_steps.specs.Written.{stepFrom, FaultsOf}
 
 -- ---- a question that was found, or not
 
@@ -147,9 +148,72 @@ module _ (rules : List Rule) (table : List ℕ) (n : ℕ) where
   unfolding refuses8
   is-eight b q e = e ∙ sym (later-decide (λ k m. not (isSome (yield rules (unionIn table n) k (m .step)))) table n)
 
-  pub is-nine : (b : Bool) (q : Query) → b ≡ someFrom unlikeAt 1 n → b ≡ refuses9 rules q (unionIn table n)
+  is-nine : (b : Bool) (q : Query) → b ≡ someFrom unlikeAt 1 n → b ≡ refuses9 rules q (unionIn table n)
   unfolding refuses9
   is-nine b q e = e ∙ sym (later-decide (λ k m. yieldsUnlike (yield rules (unionIn table n) k (m .step)) (m .query)) table n)
+
+-- ---- the first of 8 and 9
+
+-- 8 by its test, and 9 by another
+abbrev pub eightThen : List Rule → Query → UCQ → Bool → List (ℕ × Bool)
+eightThen rules q union nine = (8, refuses8 rules q union) ∷ (9, nine) ∷ []
+
+module _ (rules : List Rule) (union : UCQ) (b : Bool) (eight : (p : Query) → b ≡ refuses8 rules p union) (q : Query) where
+  pub it-is-eight : b ≡ true → 8 ≡ numberOf (firstRefusal (eightThen rules q union true))
+  unfolding firstRefusal numberOf
+  it-is-eight t = simp (sym (eight q), t)
+
+  pub it-is-nine : b ≡ false → 9 ≡ numberOf (firstRefusal (eightThen rules q union true))
+  unfolding firstRefusal numberOf
+  it-is-nine f = simp (sym (eight q), f)
+
+-- the steps before member k are right: those that are left decide
+pub record RightBefore (rules : List Rule) (table : List ℕ) (n k : ℕ) : Type 0 where
+  pub fails : someFrom (failsAt rules table n) k n ≡ someFrom (failsAt rules table n) 1 n
+  pub unlike : someFrom (unlikeAt rules table n) k n ≡ someFrom (unlikeAt rules table n) 1 n
+
+pub none-before : (rules : List Rule) (table : List ℕ) (n : ℕ) → RightBefore rules table n 1
+none-before rules table n = record { fails = refl; unlike = refl }
+
+module _ (rules : List Rule) (table : List ℕ) (n k : ℕ) (before : RightBefore rules table n k) where
+  pub right-too : (b d : Bool) → k < n
+      → FaultsOf (yield rules (unionIn table n) k (memberIn table k .step)) (memberIn table k .query) b d → b ≡ false → d ≡ false
+      → RightBefore rules table n (k + 1)
+  right-too b d h e f i = record {
+    fails = some-later (failsAt rules table n) k n (someFrom (failsAt rules table n) 1 n) (before .fails) b h (e .fails-is) f;
+    unlike = some-later (unlikeAt rules table n) k n (someFrom (unlikeAt rules table n) 1 n) (before .unlike) d h (e .unlike-is) i;
+  }
+
+module _ (rules : List Rule) (table : List ℕ) (n k : ℕ) (q : Query) (before : RightBefore rules table n k) where
+  abbrev nineHere : Bool
+  nineHere = refuses9 rules q (unionIn table n)
+
+  pub one-fails : (b d : Bool) → k < n
+      → FaultsOf (yield rules (unionIn table n) k (memberIn table k .step)) (memberIn table k .query) b d → b ≡ true
+      → 8 ≡ numberOf (firstRefusal (eightThen rules q (unionIn table n) nineHere))
+  unfolding firstRefusal numberOf
+  one-fails b d h e t =
+      let found : true ≡ refuses8 rules q (unionIn table n) =
+      is-eight rules table n true q (some-found (failsAt rules table n) k n (someFrom (failsAt rules table n) 1 n) (before .fails) b h (e .fails-is) t) in
+      simp (sym found)
+
+  pub one-unlike : (r : ℕ) (b d : Bool) → k < n
+      → FaultsOf (yield rules (unionIn table n) k (memberIn table k .step)) (memberIn table k .query) b d → d ≡ true
+      → ((p : Query) → r ≡ numberOf (firstRefusal (eightThen rules p (unionIn table n) true)))
+      → r ≡ numberOf (firstRefusal (eightThen rules q (unionIn table n) nineHere))
+  one-unlike r b d h e t f =
+      let found : true ≡ nineHere =
+      is-nine rules table n true q (some-found (unlikeAt rules table n) k n (someFrom (unlikeAt rules table n) 1 n) (before .unlike) d h (e .unlike-is) t) in
+      f q ∙ ap (λ c. numberOf (firstRefusal (eightThen rules q (unionIn table n) c))) found
+
+  pub neither : n ≤ k → 0 ≡ numberOf (firstRefusal (eightThen rules q (unionIn table n) nineHere))
+  unfolding firstRefusal numberOf
+  neither h =
+      let eight : false ≡ refuses8 rules q (unionIn table n) =
+      is-eight rules table n false q (some-none (failsAt rules table n) k n (someFrom (failsAt rules table n) 1 n) (before .fails) h) in
+      let nine : false ≡ nineHere =
+      is-nine rules table n false q (some-none (unlikeAt rules table n) k n (someFrom (unlikeAt rules table n) 1 n) (before .unlike) h) in
+      simp (sym eight, sym nine)
 
 pub ruleset laws = (
   needs,
@@ -170,5 +234,11 @@ pub ruleset laws = (
   from-parent,
   no-parent,
   is-eight,
-  is-nine,
+  it-is-eight,
+  it-is-nine,
+  none-before,
+  right-too,
+  one-fails,
+  one-unlike,
+  neither,
 )

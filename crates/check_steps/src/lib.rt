@@ -11,19 +11,21 @@ use words::steps::kind_in;
 use words::steps::other_in;
 use words::steps::parent_in;
 ghost use mathlib.Core.Path.{_≡_};
-ghost use mathlib.Core.Bool.{not};
+ghost use mathlib.Core.Bool.{true, not};
+ghost use mathlib.Core.List.{[], _∷_};
 ghost use mathlib.Core.Option.{none};
 ghost use Prim.Native.Nat.{_≤_, _<_};
 ghost use lib.ListN.{length};
 ghost use Rattle.theory.specs.Lists.{isSome};
+ghost use Rattle.theory.specs.Refusals.{firstRefusal, numberOf};
 ghost use Rattle.theory.specs.Syntax.{Query};
 ghost use Rattle.theory.specs.Rewriting.{ruleStep};
-ghost use Rattle.theory.specs.Union.{yield, yieldsUnlike, refuses8 as refusesEight, refuses9 as refusesNine};
+ghost use Rattle.theory.specs.Union.{yield, refuses8 as refusesEight, refuses9 as refusesNine};
 ghost use Rattle.words.specs.Records.{stepOf};
 ghost use Rattle.words.specs.Words.{queryOf, Small, rulesIn, unionIn};
 ghost use Rattle.words.specs.Rows.{Rows, memberIn};
 ghost use Rattle.query_steps.specs.StepResults.{queryFound};
-ghost use Rattle.check_steps.specs.Written.{stepFrom};
+ghost use Rattle.check_steps.specs.Written.{stepFrom, FaultsOf};
 
 // No question, where a step does not apply.
 fn nothing(query: QueryWords) -> QueryFound
@@ -104,37 +106,72 @@ pub fn refuses8(rules: &[u64], count: usize, table: &[u64], n: usize) -> bool
     false
 }
 
-// Whether the step beside member k yields a question that is not alike to it.
-fn unlike_at(rules: &[u64], count: usize, table: &[u64], n: usize, k: usize) -> bool
+// What the step beside a member does wrong: it yields nothing, or a question that is not alike to the member.
+struct Faults {
+    fails: bool,
+    unlike: bool,
+}
+
+// What the step beside member k does wrong.
+fn judged(rules: &[u64], count: usize, table: &[u64], n: usize, k: usize) -> Faults
     requires { ⌜ (count ≤ length (now rules)) × Rows (now table) n × (k < n) ⌝ }
-    ensures { λ r. ⌜ r ≡ yieldsUnlike
+    ensures { λ r. ⌜ FaultsOf
         (yield (rulesIn (now (rules .entry)) count) (unionIn (now (table .entry)) n) k (memberIn (now (table .entry)) k .step))
-        (memberIn (now (table .entry)) k .query) ⌝ }
+        (memberIn (now (table .entry)) k .query) (r .fails) (r .unlike) ⌝ }
 {
     let r = yielded(rules, count, table, n, k);
     let q = r.query;
     if r.found {
         if alike(q, load(table, k)) {
-            false
+            Faults {
+                fails: false,
+                unlike: false,
+            }
         } else {
-            true
+            Faults {
+                fails: false,
+                unlike: true,
+            }
         }
     } else {
-        false
+        Faults {
+            fails: true,
+            unlike: false,
+        }
     }
 }
 
-// Refusal 9: a step's result is not alike to its member.
-pub fn refuses9(rules: &[u64], count: usize, table: &[u64], n: usize) -> bool
+// Refusal 9 where some result is not alike to its member: 8 comes before it if any step of the union does not apply.
+fn eight_or_nine(rules: &[u64], count: usize, table: &[u64], n: usize) -> u32
     requires { ⌜ (count ≤ length (now rules)) × Rows (now table) n ⌝ }
-    ensures { λ r. ⌜ ((q : Query) → r ≡ refusesNine (rulesIn (now (rules .entry)) count) q (unionIn (now (table .entry)) n)) ⌝ }
+    ensures { λ r. ⌜ ((q : Query) → r
+        ≡ numberOf (firstRefusal ((8, refusesEight (rulesIn (now (rules .entry)) count) q (unionIn (now (table .entry)) n))
+        ∷ (9, true) ∷ []))) ⌝ }
+{
+    if refuses8(rules, count, table, n) {
+        8
+    } else {
+        9
+    }
+}
+
+// The first of refusals 8 and 9 that applies, or 0: one pass where neither does.
+pub fn check_written(rules: &[u64], count: usize, table: &[u64], n: usize) -> u32
+    requires { ⌜ (count ≤ length (now rules)) × Rows (now table) n ⌝ }
+    ensures { λ r. ⌜ ((q : Query) → r
+        ≡ numberOf (firstRefusal ((8, refusesEight (rulesIn (now (rules .entry)) count) q (unionIn (now (table .entry)) n))
+        ∷ (9, refusesNine (rulesIn (now (rules .entry)) count) q (unionIn (now (table .entry)) n)) ∷ []))) ⌝ }
 {
     let mut k: usize = 1;
     while k < n {
-        if unlike_at(rules, count, table, n, k) {
-            return true;
+        let step = judged(rules, count, table, n, k);
+        if step.fails {
+            return 8;
+        }
+        if step.unlike {
+            return eight_or_nine(rules, count, table, n);
         }
         k += 1;
     }
-    false
+    0
 }

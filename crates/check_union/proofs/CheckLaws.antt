@@ -1,6 +1,7 @@
 -- The first refusal that applies decides.
-use mathlib.Core.Path.{_≡_, sym, _∙_}
+use mathlib.Core.Path.{_≡_, refl, sym, _∙_}
 use Prim.Native.Nat.{ℕ}
+use native.Mathlib.Omega.{arith}
 use mathlib.Core.Bool.{Bool, true, false}
 use mathlib.Core.List.{List, [], _∷_}
 use borrow.Author.Needs.{needs}
@@ -26,25 +27,47 @@ module _ (rules : List Rule) (union : UCQ) (a : Bool) (ten : (rs : List Rule) (p
     unfolding firstRefusal numberOf
     gives-none t = simp (sym (ten rules q), not-ten, sym (eleven q), t)
 
--- 7 to 9, and the rest
+-- 8 and 9
+abbrev middleTwo : List Rule → Query → UCQ → List (ℕ × Bool)
+middleTwo rules q union = (8, refuses8 rules q union) ∷ (9, refuses9 rules q union) ∷ []
+
+-- 8 and 9 decide, unless neither applies
+module _ (later : List (ℕ × Bool)) where
+  middle-decides : (a b : Bool) → (numberOf (firstRefusal ((8, a) ∷ (9, b) ∷ [])) ≡ 0 → ⊥)
+      → numberOf (firstRefusal ((8, a) ∷ (9, b) ∷ [])) ≡ numberOf (firstRefusal ((8, a) ∷ (9, b) ∷ later))
+  unfolding firstRefusal numberOf
+  middle-decides true b h = refl
+  middle-decides false true h = refl
+  middle-decides false false h = absurd (h refl)
+
+  later-decides : (a b : Bool) → numberOf (firstRefusal ((8, a) ∷ (9, b) ∷ [])) ≡ 0
+      → numberOf (firstRefusal later) ≡ numberOf (firstRefusal ((8, a) ∷ (9, b) ∷ later))
+  unfolding firstRefusal numberOf
+  later-decides true b h = absurd (let z : _≡_ {A = ℕ} 8 0 = h in omega arith)
+  later-decides false true h = absurd (let z : _≡_ {A = ℕ} 9 0 = h in omega arith)
+  later-decides false false h = refl
+
+-- 7, then these, then the rest
 module _ (rules : List Rule) (q : Query) (union : UCQ) (a : Bool) (seven : (rs : List Rule) → a ≡ refuses7 rs q union) where
   pub gives-seven : a ≡ true → 7 ≡ numberOf (check rules q union)
   unfolding check numberOf
   gives-seven t = simp (sym (seven rules), t)
 
-  module _ (b : Bool) (eight : (p : Query) → b ≡ refuses8 rules p union) (not-seven : a ≡ false) where
-    pub gives-eight : b ≡ true → 8 ≡ numberOf (check rules q union)
-    unfolding check numberOf
-    gives-eight t = simp (sym (seven rules), not-seven, sym (eight q), t)
+  module _ (m : ℕ) (middle : (p : Query) → m ≡ numberOf (firstRefusal (middleTwo rules p union))) (not-seven : a ≡ false) where
+    after-seven : numberOf (check rules q union)
+        ≡ numberOf (firstRefusal ((8, refuses8 rules q union) ∷ (9, refuses9 rules q union) ∷ lastTwo rules q union))
+    unfolding check firstRefusal
+    after-seven = simp (sym (seven rules), not-seven)
 
-    module _ (c : Bool) (nine : (p : Query) → c ≡ refuses9 rules p union) (not-eight : b ≡ false) where
-      pub gives-nine : c ≡ true → 9 ≡ numberOf (check rules q union)
-      unfolding check numberOf
-      gives-nine t = simp (sym (seven rules), not-seven, sym (eight q), not-eight, sym (nine q), t)
+    pub gives-middle : (m ≡ 0 → ⊥) → m ≡ numberOf (check rules q union)
+    gives-middle h =
+        middle q ∙ middle-decides (lastTwo rules q union) (refuses8 rules q union) (refuses9 rules q union) (λ z. h (middle q ∙ z))
+        ∙ sym after-seven
 
-      pub gives-later : (r : ℕ) → c ≡ false → ((p : Query) → r ≡ numberOf (firstRefusal (lastTwo rules p union)))
-          → r ≡ numberOf (check rules q union)
-      unfolding check numberOf
-      gives-later r f later = later q ∙ sym (simp (sym (seven rules), not-seven, sym (eight q), not-eight, sym (nine q), f))
+    pub gives-later : (r : ℕ) → m ≡ 0 → ((p : Query) → r ≡ numberOf (firstRefusal (lastTwo rules p union)))
+        → r ≡ numberOf (check rules q union)
+    gives-later r z later =
+        later q ∙ later-decides (lastTwo rules q union) (refuses8 rules q union) (refuses9 rules q union) (sym (middle q) ∙ z)
+        ∙ sym after-seven
 
-pub ruleset laws = (needs, gives-ten, gives-eleven, gives-none, gives-seven, gives-eight, gives-nine, gives-later)
+pub ruleset laws = (needs, gives-ten, gives-eleven, gives-none, gives-seven, gives-middle, gives-later)

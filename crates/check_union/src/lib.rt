@@ -3,8 +3,7 @@ use check_closed::refuses11;
 use check_distinct::fill_keys;
 use check_distinct::refuses10;
 use check_first::refuses7;
-use check_steps::refuses8;
-use check_steps::refuses9;
+use check_steps::check_written;
 use words::QueryWords;
 ghost use mathlib.Core.Path.{_≡_};
 ghost use mathlib.Core.List.{[], _∷_};
@@ -48,11 +47,9 @@ pub fn check_union(
     if refuses7(question, table, n) {
         return 7;
     }
-    if refuses8(rules, count, table, n) {
-        return 8;
-    }
-    if refuses9(rules, count, table, n) {
-        return 9;
+    let number = check_written(rules, count, table, n);
+    if number != 0 {
+        return number;
     }
     check_alike(rules, count, table, n, keys)
 }

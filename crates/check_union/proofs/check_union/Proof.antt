@@ -6,4 +6,4 @@ pub check-union-spec : {M : Type 1} → statement M
 check-union-spec =
     tie.close
     (tie.spec (λ c κs. search laws) (λ c. search laws) (λ c κs. search laws) (λ c. search laws) (λ c κs. search laws) (λ c. search laws)
-    (λ c κs. search laws) (λ c. search laws) (λ c. search laws))
+    (λ c. search laws))
