@@ -66,11 +66,48 @@ pub fn alike_to_one(
     false
 }
 
-/// Rules, members and the members' keys.
+/// Words chained by their place: for each place the number after the last word there, for each word the number after the one before it
+/// at its place, 0 where there is none.
+struct Chains {
+    heads: [u16; PLACES],
+    links: [u16; PLACES],
+}
+
+const PLACES: usize = 512;
+/// From so many members on there is an index of their keys.
+const MANY_MEMBERS: usize = 16;
+
+fn place(word: u64) -> usize {
+    (word % PLACES as u64) as usize
+}
+
+impl Chains {
+    fn of(words: impl Iterator<Item = u64>) -> Chains {
+        let mut chains = Chains {
+            heads: [0; PLACES],
+            links: [0; PLACES],
+        };
+        for (link, (j, word)) in chains.links.iter_mut().zip((1..).zip(words)) {
+            *link = std::mem::replace(&mut chains.heads[place(word)], j);
+        }
+        chains
+    }
+
+    /// The words at the place of the wanted one, the last first.
+    fn along(&self, wanted: u64) -> impl Iterator<Item = usize> + '_ {
+        let next = |at: u16| at.checked_sub(1).map(usize::from);
+        std::iter::successors(next(self.heads[place(wanted)]), move |&j| {
+            next(self.links[j])
+        })
+    }
+}
+
+/// Rules, members and the members' keys, with an index of these where members are many.
 struct Union<'a> {
     rules: &'a [Rule],
     members: &'a [Member],
     keys: Vec<u64>,
+    index: Option<Chains>,
 }
 
 /// What the step beside member k yields.
@@ -92,13 +129,14 @@ fn yielded(rules: &[Rule], members: &[Member], k: usize) -> Option<Query> {
 impl Union<'_> {
     /// Whether the query is alike to a member from number `from` on.
     fn alike_from(&self, query: &Query, key: u64, from: usize, counts: &mut Counts) -> bool {
-        alike_to_one(
-            query,
-            key,
-            &self.members[from..],
-            &self.keys[from..],
-            counts,
-        )
+        let Some(index) = &self.index else {
+            let members = &self.members[from..];
+            return alike_to_one(query, key, members, &self.keys[from..], counts);
+        };
+        index.along(key).take_while(|&j| from <= j).any(|j| {
+            let (members, keys) = (&self.members[j..=j], &self.keys[j..=j]);
+            alike_to_one(query, key, members, keys, counts)
+        })
     }
 
     fn refuses10(&self, counts: &mut Counts) -> bool {
@@ -151,11 +189,14 @@ fn check_union(rules: &[Rule], question: &Query, members: &[Member], counts: &mu
             return if (k + 1..members.len()).any(fails) { 8 } else { 9 };
         }
     }
-    let keys = members.iter().map(|member| key_of(&member.query)).collect();
+    let keys: Vec<u64> = members.iter().map(|member| key_of(&member.query)).collect();
+    let many = MANY_MEMBERS <= members.len();
+    let index = many.then(|| Chains::of(keys.iter().copied()));
     let union = Union {
         rules,
         members,
         keys,
+        index,
     };
     if union.refuses10(counts) {
         return 10;

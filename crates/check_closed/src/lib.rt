@@ -1,5 +1,5 @@
 // Refusal 11: every step from every member leads to a question that is alike to a member.
-use check_distinct::alike_to_member;
+use check_distinct::alike_to_indexed;
 use query_rule::names;
 use query_steps::steps::QueryFound;
 use query_steps::steps::merge_step;
@@ -19,18 +19,19 @@ ghost use Rattle.theory.specs.Laws.Scans.{NoneIn};
 ghost use Rattle.words.specs.Words.{queryOf, Small, rulesIn, unionIn};
 ghost use Rattle.words.specs.Rows.{Rows, memberIn};
 ghost use Rattle.query_steps.specs.StepResults.{queryFound};
+ghost use Rattle.check_chains.specs.Chains.{Indexed};
 ghost use Rattle.check_distinct.specs.Keys.{Keys};
 ghost use Rattle.check_closed.specs.Outside.{outside, leadsOutside, ruleOut, rulesOut, mergesOut};
 
 // Whether a step gives a question that is alike to no member.
-fn leads_outside(r: QueryFound, table: &[u64], n: usize, keys: &[u64]) -> bool
+fn leads_outside(r: QueryFound, table: &[u64], n: usize, keys: &[u64], index: &[u16]) -> bool
     requires { ⌜ Small (r .query) × (r .found ≡ true → Unrepeated (queryOf (r .query) .atoms)) × Rows (now table) n
-        × Keys (now table) n (now keys) ⌝ }
+        × Keys (now table) n (now keys) × Indexed (now keys) n (now index) ⌝ }
     ensures { λ b. ⌜ b ≡ leadsOutside (unionIn (now (table .entry)) n) (queryFound r) ⌝ }
 {
     let q = r.query;
     if r.found {
-        if alike_to_member(q, table, n, keys) {
+        if alike_to_indexed(q, table, n, keys, index) {
             false
         } else {
             true
@@ -67,9 +68,10 @@ fn rule_leads_outside(
     table: &[u64],
     n: usize,
     keys: &[u64],
+    index: &[u16],
 ) -> bool
     requires { ⌜ (count ≤ length (now rules)) × (k < count) × Small q × (i < q .size) × Rows (now table) n × Keys (now table) n (now keys)
-        × NoneIn (ruleOut (unionIn (now table) n) (queryOf q) (rulesIn (now rules) count) i) 0 k ⌝ }
+        × Indexed (now keys) n (now index) × NoneIn (ruleOut (unionIn (now table) n) (queryOf q) (rulesIn (now rules) count) i) 0 k ⌝ }
     ensures { λ r. ⌜ r ≡ ruleOut (unionIn (now (table .entry)) n) (queryOf q) (rulesIn (now (rules .entry)) count) i k ⌝ }
 {
     let rule = rules[k];
@@ -78,7 +80,7 @@ fn rule_leads_outside(
         if repeated(rules, k) {
             false
         } else {
-            leads_outside(rule_step(q, i, rule), table, n, keys)
+            leads_outside(rule_step(q, i, rule), table, n, keys, index)
         }
     } else {
         false
@@ -94,13 +96,15 @@ fn rules_lead_outside(
     table: &[u64],
     n: usize,
     keys: &[u64],
+    index: &[u16],
 ) -> bool
-    requires { ⌜ (count ≤ length (now rules)) × Small q × (i < q .size) × Rows (now table) n × Keys (now table) n (now keys) ⌝ }
+    requires { ⌜ (count ≤ length (now rules)) × Small q × (i < q .size) × Rows (now table) n × Keys (now table) n (now keys)
+        × Indexed (now keys) n (now index) ⌝ }
     ensures { λ r. ⌜ r ≡ rulesOut (unionIn (now (table .entry)) n) (queryOf q) (rulesIn (now (rules .entry)) count) count i ⌝ }
 {
     let mut k: usize = 0;
     while k < count {
-        if rule_leads_outside(rules, count, q, i, k, table, n, keys) {
+        if rule_leads_outside(rules, count, q, i, k, table, n, keys, index) {
             return true;
         }
         k += 1;
@@ -116,15 +120,17 @@ fn atoms_lead_outside(
     table: &[u64],
     n: usize,
     keys: &[u64],
+    index: &[u16],
 ) -> bool
-    requires { ⌜ (count ≤ length (now rules)) × Small q × Rows (now table) n × Keys (now table) n (now keys) ⌝ }
+    requires { ⌜ (count ≤ length (now rules)) × Small q × Rows (now table) n × Keys (now table) n (now keys)
+        × Indexed (now keys) n (now index) ⌝ }
     ensures { λ r. ⌜ r ≡ any (rulesOut (unionIn (now (table .entry)) n) (queryOf q) (rulesIn (now (rules .entry)) count) count)
         (numbers 0 (q .size)) ⌝ }
 {
     let size = q.size;
     let mut i: usize = 0;
     while i < size {
-        if rules_lead_outside(rules, count, q, i, table, n, keys) {
+        if rules_lead_outside(rules, count, q, i, table, n, keys, index) {
             return true;
         }
         i += 1;
@@ -133,14 +139,22 @@ fn atoms_lead_outside(
 }
 
 // Whether a merge of atom i with a later one leads outside.
-fn merges_lead_outside(q: QueryWords, i: usize, table: &[u64], n: usize, keys: &[u64]) -> bool
-    requires { ⌜ Small q × (i < q .size) × Rows (now table) n × Keys (now table) n (now keys) ⌝ }
+fn merges_lead_outside(
+    q: QueryWords,
+    i: usize,
+    table: &[u64],
+    n: usize,
+    keys: &[u64],
+    index: &[u16],
+) -> bool
+    requires { ⌜ Small q × (i < q .size) × Rows (now table) n × Keys (now table) n (now keys)
+        × Indexed (now keys) n (now index) ⌝ }
     ensures { λ r. ⌜ r ≡ mergesOut (unionIn (now (table .entry)) n) (queryOf q) (q .size) i ⌝ }
 {
     let size = q.size;
     let mut j = i + 1;
     while j < size {
-        if leads_outside(merge_step(q, i, j), table, n, keys) {
+        if leads_outside(merge_step(q, i, j), table, n, keys, index) {
             return true;
         }
         j += 1;
@@ -149,14 +163,15 @@ fn merges_lead_outside(q: QueryWords, i: usize, table: &[u64], n: usize, keys: &
 }
 
 // Whether some merge leads outside.
-fn pairs_lead_outside(q: QueryWords, table: &[u64], n: usize, keys: &[u64]) -> bool
-    requires { ⌜ Small q × Rows (now table) n × Keys (now table) n (now keys) ⌝ }
+fn pairs_lead_outside(q: QueryWords, table: &[u64], n: usize, keys: &[u64], index: &[u16]) -> bool
+    requires { ⌜ Small q × Rows (now table) n × Keys (now table) n (now keys)
+        × Indexed (now keys) n (now index) ⌝ }
     ensures { λ r. ⌜ r ≡ any (mergesOut (unionIn (now (table .entry)) n) (queryOf q) (q .size)) (numbers 0 (q .size)) ⌝ }
 {
     let size = q.size;
     let mut first: usize = 0;
     while first < size {
-        if merges_lead_outside(q, first, table, n, keys) {
+        if merges_lead_outside(q, first, table, n, keys, index) {
             return true;
         }
         first += 1;
@@ -171,28 +186,38 @@ fn member_leads_outside(
     table: &[u64],
     n: usize,
     keys: &[u64],
+    index: &[u16],
     m: usize,
 ) -> bool
-    requires { ⌜ (count ≤ length (now rules)) × Rows (now table) n × Keys (now table) n (now keys) × (m < n) ⌝ }
+    requires { ⌜ (count ≤ length (now rules)) × Rows (now table) n × Keys (now table) n (now keys)
+        × Indexed (now keys) n (now index) × (m < n) ⌝ }
     ensures { λ r. ⌜ r ≡ any (outside (unionIn (now (table .entry)) n))
         (steps (rulesIn (now (rules .entry)) count) (memberIn (now (table .entry)) m .query)) ⌝ }
 {
     let q = load(table, m);
-    if atoms_lead_outside(rules, count, q, table, n, keys) {
+    if atoms_lead_outside(rules, count, q, table, n, keys, index) {
         true
     } else {
-        pairs_lead_outside(q, table, n, keys)
+        pairs_lead_outside(q, table, n, keys, index)
     }
 }
 
 // Refusal 11: a step from some member leads outside.
-pub fn refuses11(rules: &[u64], count: usize, table: &[u64], n: usize, keys: &[u64]) -> bool
-    requires { ⌜ (count ≤ length (now rules)) × Rows (now table) n × Keys (now table) n (now keys) ⌝ }
+pub fn refuses11(
+    rules: &[u64],
+    count: usize,
+    table: &[u64],
+    n: usize,
+    keys: &[u64],
+    index: &[u16],
+) -> bool
+    requires { ⌜ (count ≤ length (now rules)) × Rows (now table) n × Keys (now table) n (now keys)
+        × Indexed (now keys) n (now index) ⌝ }
     ensures { λ r. ⌜ ((q : Query) → r ≡ refusesEleven (rulesIn (now (rules .entry)) count) q (unionIn (now (table .entry)) n)) ⌝ }
 {
     let mut m: usize = 0;
     while m < n {
-        if member_leads_outside(rules, count, table, n, keys, m) {
+        if member_leads_outside(rules, count, table, n, keys, index, m) {
             return true;
         }
         m += 1;

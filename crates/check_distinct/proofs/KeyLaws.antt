@@ -2,7 +2,7 @@
 use mathlib.Core.Path.{_≡_, sym, ap, _∙_, subst}
 use Prim.Native.Nat.{ℕ, zero, suc, _+_, _-_, _≤_, _<_}
 use native.Mathlib.Omega.{arith}
-use mathlib.Core.Bool.{Bool, _||_}
+use mathlib.Core.Bool.{Bool, true, false, _||_}
 use mathlib.Core.List.{List}
 use lib.ListN.{length, getD, drop, set}
 use lib.Seq.{getD-set-same, getD-set-other}
@@ -13,13 +13,15 @@ use Rattle.theory.specs.Syntax.{Rule, Query}
 use Rattle.theory.specs.Renaming.{alike}
 use Rattle.theory.specs.Union.{refuses10}
 use Rattle.theory.specs.Laws.Lists.{any-map}
-use Rattle.theory.specs.Laws.Scans.{someFrom, numberScans, skip, some-next}
+use Rattle.theory.specs.Laws.Scans.{someFrom, numberScans, skip, some-next, some-found}
 use Rattle.words.specs.Words.{queryOf, unionIn}
 use Rattle.words.specs.declared.QueryWords.{QueryWords}
 use Rattle.words.specs.Rows.{Rows, memberIn}
 use Rattle.words.specs.Laws.Rows.{rows, union-from, next-member}
 use Rattle.query_key.specs.Key.{key}
 use Rattle.query_key.specs.KeyLaws.{unlike-keys}
+use Rattle.check_chains.specs.Chains.{placeOf, Chains, Indexed}
+use Rattle.check_chains.specs.WalkLaws.{OnlyAt, Walked, walks}
 use Rattle.check_distinct.specs.Keys.{Keys}
 
 -- ---- the keys are filled in
@@ -79,6 +81,24 @@ pub found-alike : (q m : QueryWords) (table : List ℕ) (j : ℕ) (b : Bool) →
     → b ≡ alike (queryOf q) (queryOf m) → b ≡ alikeAt (queryOf q) table j
 found-alike q m table j b e f = f ∙ ap (alike (queryOf q)) e
 
+-- ---- by the index
+
+-- a member at another place has another key
+pub keys-only : (q : QueryWords) (wanted : ℕ) (table keys : List ℕ) (n : ℕ) → Unrepeated (queryOf q .atoms) → wanted ≡ key (queryOf q)
+    → Rows table n → Keys table n keys → OnlyAt (alikeAt (queryOf q) table) keys (placeOf wanted) n
+keys-only q wanted table keys n u e rows ks = record {
+  each = λ i l elsewhere. unlike-keys (queryOf q) (memberIn table i .query) u (rows .each i l .distinct)
+      (λ d. elsewhere (ap placeOf (ks .each i l ∙ sym d ∙ sym e)));
+}
+
+pub other-key : (q : QueryWords) (wanted : ℕ) (table keys : List ℕ) (n j : ℕ) → Unrepeated (queryOf q .atoms) → wanted ≡ key (queryOf q)
+    → Rows table n → Keys table n keys → j < n → (getD keys j 0 ≡ wanted → ⊥) → false ≡ alikeAt (queryOf q) table j
+other-key q wanted table keys n j u e rows ks h differ =
+    sym (unlike-keys (queryOf q) (memberIn table j .query) u (rows .each j h .distinct) (λ d. differ (ks .each j h ∙ sym d ∙ sym e)))
+
+pub is-indexed : (words index : List ℕ) (n : ℕ) → Indexed words n index → 1024 ≤ length index → Chains words n index
+is-indexed words index n ix h = ix .chained h
+
 -- ---- two members
 
 pub member-distinct : (table : List ℕ) (n j : ℕ) (q : QueryWords) → Rows table n → j < n → queryOf q ≡ memberIn table j .query
@@ -108,6 +128,12 @@ module _ (table : List ℕ) (n : ℕ) where
       → b ≡ any (λ m. alike (queryOf q) (m .query)) (drop (i + 1) (unionIn table n)) → b ≡ twinAt i
   has-twin i q b e f = f ∙ ap (λ p. any (λ m. alike p (m .query)) (drop (i + 1) (unionIn table n))) e
 
+  pub twin-found : (i : ℕ) (q : QueryWords) (b : Bool) (rules : List Rule) (p : Query) → someFrom twinAt i n ≡ someFrom twinAt 0 n → i < n
+      → queryOf q ≡ memberIn table i .query → b ≡ any (λ m. alike (queryOf q) (m .query)) (drop (i + 1) (unionIn table n)) → b ≡ true
+      → true ≡ refuses10 rules p (unionIn table n)
+  twin-found i q b rules p left h e f t =
+      is-ten true rules p (some-found twinAt i n (someFrom twinAt 0 n) left b h (has-twin i q b e f) t)
+
 pub ruleset laws = (
   needs,
   numberScans,
@@ -123,6 +149,12 @@ pub ruleset laws = (
   found-alike,
   member-distinct,
   member-key,
+  other-key,
+  is-indexed,
   is-ten,
   has-twin,
+  twin-found,
 )
+
+-- for the loop along a chain
+pub ruleset chainLaws = (needs, rows, key-room, members-from, keys-only, walks)

@@ -9,12 +9,12 @@ use Rattle.check_closed.proofs.merges_lead_outside.Statement.{statement
 use Rattle.check_closed.proofs.merges_lead_outside.Tie as tie
 
 abbrev Inv-loop : tie.InvT-loop
-Inv-loop q i table n keys size j₀ j =
+Inv-loop q i table n keys index size j₀ j =
     (j ≤ size) × (someFrom (mergeOut (unionIn table n) (queryOf q) i) j size
     ≡ any (mergeOut (unionIn table n) (queryOf q) i) (numbers 0 size))
 
 abbrev μ-loop : tie.MeasureT-loop
-μ-loop q i table n keys size j₀ j = size - j
+μ-loop q i table n keys index size j₀ j = size - j
 
 pub merges-lead-outside-spec : {M : Type 1} → statement M
 merges-lead-outside-spec =

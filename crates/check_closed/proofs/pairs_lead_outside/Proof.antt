@@ -9,12 +9,12 @@ use Rattle.check_closed.proofs.pairs_lead_outside.Statement.{statement}
 use Rattle.check_closed.proofs.pairs_lead_outside.Tie as tie
 
 abbrev Inv-loop : tie.InvT-loop
-Inv-loop q table n keys size first₀ first =
+Inv-loop q table n keys index size first₀ first =
     (first ≤ size) × (someFrom (mergesOut (unionIn table n) (queryOf q) size) first size
     ≡ any (mergesOut (unionIn table n) (queryOf q) size) (numbers 0 size))
 
 abbrev μ-loop : tie.MeasureT-loop
-μ-loop q table n keys size first₀ first = size - first
+μ-loop q table n keys index size first₀ first = size - first
 
 pub pairs-lead-outside-spec : {M : Type 1} → statement M
 pairs-lead-outside-spec =

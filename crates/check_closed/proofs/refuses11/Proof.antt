@@ -7,11 +7,11 @@ use Rattle.check_closed.proofs.refuses11.Statement.{statement}
 use Rattle.check_closed.proofs.refuses11.Tie as tie
 
 abbrev Inv-loop : tie.InvT-loop
-Inv-loop rules count table n keys m₀ m =
+Inv-loop rules count table n keys index m₀ m =
     (m ≤ n) × (someFrom (memberOut (rulesIn rules count) table n) m n ≡ someFrom (memberOut (rulesIn rules count) table n) 0 n)
 
 abbrev μ-loop : tie.MeasureT-loop
-μ-loop rules count table n keys m₀ m = n - m
+μ-loop rules count table n keys index m₀ m = n - m
 
 pub refuses11-spec : {M : Type 1} → statement M
 refuses11-spec =

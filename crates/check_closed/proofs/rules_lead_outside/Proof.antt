@@ -9,13 +9,13 @@ use Rattle.check_closed.proofs.rules_lead_outside.Statement.{statement}
 use Rattle.check_closed.proofs.rules_lead_outside.Tie as tie
 
 abbrev Inv-loop : tie.InvT-loop
-Inv-loop rules count q i table n keys k₀ k =
+Inv-loop rules count q i table n keys index k₀ k =
     (k ≤ count) × NoneIn (ruleOut (unionIn table n) (queryOf q) (rulesIn rules count) i) 0 k
     × (someFrom (ruleOut (unionIn table n) (queryOf q) (rulesIn rules count) i) k count
     ≡ any (ruleOut (unionIn table n) (queryOf q) (rulesIn rules count) i) (numbers 0 count))
 
 abbrev μ-loop : tie.MeasureT-loop
-μ-loop rules count q i table n keys k₀ k = count - k
+μ-loop rules count q i table n keys index k₀ k = count - k
 
 pub rules-lead-outside-spec : {M : Type 1} → statement M
 rules-lead-outside-spec =

@@ -1,0 +1,3 @@
+-- What the contracts cite, and laws of it.
+pub mod Chains
+pub mod WalkLaws
