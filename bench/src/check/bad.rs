@@ -235,7 +235,10 @@ pub fn common() -> Vec<(String, Sheet)> {
     let question = Query::new(&[0], &[Atom::role(P + 1, 0, 1), Atom::role(P, 0, 1)]);
     let one = [concept_rule((0, A), (1, P))];
     vec![
-        ("taxonomy, one below each", taxonomy(MOST_MEMBERS, |i| i - 1)),
+        (
+            "taxonomy, one below each",
+            taxonomy(MOST_MEMBERS, |i| i - 1),
+        ),
         ("taxonomy, two below each", taxonomy(MOST_MEMBERS, half)),
         ("taxonomy, one level", taxonomy(MOST_MEMBERS, |_| 0)),
         ("taxonomy, 341 names", taxonomy(341, |i| (i - 1) / 4)),
@@ -255,7 +258,12 @@ pub fn common() -> Vec<(String, Sheet)> {
         ),
         (
             "no rule",
-            made(&[], Query::new(&[0], &[Atom::concept(A, 0)]), Numbering::Kept, 9),
+            made(
+                &[],
+                Query::new(&[0], &[Atom::concept(A, 0)]),
+                Numbering::Kept,
+                9,
+            ),
         ),
     ]
     .into_iter()

@@ -74,8 +74,8 @@ struct Chains {
 }
 
 const PLACES: usize = 512;
-/// From so many members on there is an index of their keys.
-const MANY_MEMBERS: usize = 16;
+/// From so many members on there is an index of their keys, and from so many rules on, too, chains of these.
+const MANY: usize = 16;
 
 fn place(word: u64) -> usize {
     (word % PLACES as u64) as usize
@@ -102,9 +102,41 @@ impl Chains {
     }
 }
 
-/// Rules, members and the members' keys, with an index of these where members are many.
+/// Each rule once, chained by the name of its right side, which is the low bits of its word.
+struct RuleChains {
+    rules: Vec<Rule>,
+    chains: Chains,
+}
+
+impl RuleChains {
+    fn of(rules: &[Rule]) -> RuleChains {
+        let mut distinct: Vec<Rule> = Vec::with_capacity(rules.len());
+        let (mut heads, mut links) = ([0; PLACES], [0; PLACES]);
+        for &rule in rules {
+            // multiplicative hashing: all bits of the word decide
+            let head: &mut u16 = &mut heads[(rule.0.wrapping_mul(2654435761) >> 23) as usize];
+            let mut at = *head;
+            while at > 0 && distinct[at as usize - 1] != rule {
+                at = links[at as usize - 1];
+            }
+            if at == 0 {
+                links[distinct.len()] = *head;
+                distinct.push(rule);
+                *head = distinct.len() as u16;
+            }
+        }
+        let chains = Chains::of(distinct.iter().map(|rule| rule.0 as u64));
+        RuleChains {
+            rules: distinct,
+            chains,
+        }
+    }
+}
+
+/// Rules, members and the members' keys, with an index of these where members are many, and chains of the rules where both are.
 struct Union<'a> {
     rules: &'a [Rule],
+    chained: Option<RuleChains>,
     members: &'a [Member],
     keys: Vec<u64>,
     index: Option<Chains>,
@@ -152,19 +184,22 @@ impl Union<'_> {
         })
     }
 
+    /// Whether some rule leads outside from atom i. A rule for another predicate makes nothing, and one that stands earlier needs no
+    /// second try.
+    fn rules_lead_outside(&self, query: &Query, i: usize, counts: &mut Counts) -> bool {
+        let atom = query.atoms()[i];
+        let mut leads = |rule| names(rule, atom) && self.outside(rule_step(query, i, rule), counts);
+        if let Some(RuleChains { rules, chains }) = &self.chained {
+            return chains.along(atom.number() as u64).any(|k| leads(rules[k]));
+        }
+        let mut rules = self.rules.iter().enumerate();
+        rules.any(|(k, rule)| names(*rule, atom) && !self.rules[..k].contains(rule) && leads(*rule))
+    }
+
     fn refuses11(&self, counts: &mut Counts) -> bool {
         self.members.iter().any(|Member { query, .. }| {
             let size = query.atoms().len();
-            let by_rule = (0..size).any(|i| {
-                // a rule for another predicate makes nothing, and one that stands earlier needs no second try
-                let mut rules = self.rules.iter().enumerate();
-                rules.any(|(k, rule)| {
-                    names(*rule, query.atoms()[i])
-                        && !self.rules[..k].contains(rule)
-                        && self.outside(rule_step(query, i, *rule), counts)
-                })
-            });
-            by_rule
+            (0..size).any(|i| self.rules_lead_outside(query, i, counts))
                 || (0..size)
                     .any(|i| (i + 1..size).any(|j| self.outside(merge_step(query, i, j), counts)))
         })
@@ -186,14 +221,20 @@ fn check_union(rules: &[Rule], question: &Query, members: &[Member], counts: &mu
         };
         if !alike(&query, &members[k].query, counts) {
             let fails = |k: usize| yielded(rules, members, k).is_none();
-            return if (k + 1..members.len()).any(fails) { 8 } else { 9 };
+            return if (k + 1..members.len()).any(fails) {
+                8
+            } else {
+                9
+            };
         }
     }
     let keys: Vec<u64> = members.iter().map(|member| key_of(&member.query)).collect();
-    let many = MANY_MEMBERS <= members.len();
+    let many = MANY <= members.len();
     let index = many.then(|| Chains::of(keys.iter().copied()));
+    let chained = (many && MANY <= rules.len()).then(|| RuleChains::of(rules));
     let union = Union {
         rules,
+        chained,
         members,
         keys,
         index,

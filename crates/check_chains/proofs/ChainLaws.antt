@@ -1,16 +1,14 @@
 -- The index grows by one word: it goes before the others of its place.
-use mathlib.Core.Path.{_≡_, refl, sym, ap, _∙_, subst}
+use mathlib.Core.Path.{_≡_, sym, ap, _∙_, subst}
 use mathlib.Core.Logic.{_≢_}
 use Prim.Native.Nat.{ℕ, _+_, _-_, _%_, _≤_, _<_}
+use native.Mathlib.Decide.{ℕ-discrete}
 use native.Mathlib.Omega.{arith}
-use mathlib.Core.Bool.{Bool, true, false}
 use mathlib.Core.List.{List}
 use lib.ListN.{length, getD, set, length-set}
 use lib.Seq.{getD-set-same, getD-set-other}
-use lib.Dec.{T, eqb, eqb→eq}
 use borrow.Author.Count.{below-more}
 use borrow.Author.Needs.{needs}
-use borrow.Author.Tests.{eq-eqb}
 use Rattle.check_chains.specs.Chains.{places, placeOf, Last, Chains, Indexed, Cleared}
 
 -- ---- what is stored
@@ -66,25 +64,20 @@ module _ (words index : List ℕ) (n j : ℕ) (ch : Chains words j index) (long 
   place-low = omega arith
 
   new-head : (h : ℕ) → h < places → Last words (j + 1) h (getD grown h 0)
-  new-head h l = go (eqb h (placeOf (getD words j 0))) refl
+  new-head h l = elim (ℕ-discrete h (placeOf (getD words j 0))) [ yes d ↦ this-place d | no other ↦ other-place other ]
     where
-      go : (b : Bool) → eqb h (placeOf (getD words j 0)) ≡ b → Last words (j + 1) h (getD grown h 0)
-      go true e =
-          let d : h ≡ placeOf (getD words j 0) = eqb→eq h (placeOf (getD words j 0)) (subst T (sym e) tt) in
+      this-place : h ≡ placeOf (getD words j 0) → Last words (j + 1) h (getD grown h 0)
+      this-place d =
           subst (Last words (j + 1) h)
           (sym (ap (λ x. getD grown x 0) d ∙ getD-set-same linked (placeOf (getD words j 0)) (j + 1) 0 (simp length-set (omega arith))))
           (last-here words j h (sym d))
-      go false e = stays
-        where
-          other : h ≢ placeOf (getD words j 0)
-          other d = subst T (sym (eq-eqb h (placeOf (getD words j 0)) d) ∙ e) tt
 
-          stays : Last words (j + 1) h (getD grown h 0)
-          stays =
-              subst (Last words (j + 1) h)
-              (sym (getD-set-other linked (placeOf (getD words j 0)) h (j + 1) 0 other
-              ∙ getD-set-other index (places + j) h (getD index (placeOf (getD words j 0)) 0) 0 (λ d. omega arith)))
-              (last-stays words j h (getD index h 0) (λ d. other (sym d)) (ch .head h l))
+      other-place : h ≢ placeOf (getD words j 0) → Last words (j + 1) h (getD grown h 0)
+      other-place other =
+          subst (Last words (j + 1) h)
+          (sym (getD-set-other linked (placeOf (getD words j 0)) h (j + 1) 0 other
+          ∙ getD-set-other index (places + j) h (getD index (placeOf (getD words j 0)) 0) 0 (λ d. omega arith)))
+          (last-stays words j h (getD index h 0) (λ d. other (sym d)) (ch .head h l))
 
   old-link : (i : ℕ) → i < j → Last words i (placeOf (getD words i 0)) (getD grown (places + i) 0)
   old-link i l =

@@ -10,21 +10,21 @@ pub const PLACES: usize = 512;
 pub const INDEX_WORDS: usize = 1024;
 
 // A number of the index.
-fn wide(x: u16) -> usize
+pub fn wide(x: u16) -> usize
     ensures { λ r. ⌜ r ≡ x ⌝ }
 {
     x as usize
 }
 
 // The place of a word.
-fn place(word: u64) -> usize
+pub fn place(word: u64) -> usize
     ensures { λ r. ⌜ (r ≡ placeOf word) × (r < places) ⌝ }
 {
     (word % 512) as usize
 }
 
 // Puts word j before the others of its place.
-fn put(word: u64, j: usize, index: &mut [u16])
+pub fn put(word: u64, j: usize, index: &mut [u16])
     requires { ⌜ (j < places) × (length (now index) ≡ 1024) ⌝ }
     ensures { λ r. ⌜ now (index .exit)
         ≡ set (set (now (index .entry)) (places + j) (getD (now (index .entry)) (placeOf word) 0)) (placeOf word) (j + 1) ⌝ }

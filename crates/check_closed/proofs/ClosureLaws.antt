@@ -17,7 +17,7 @@ use Rattle.theory.specs.Renaming.{alike}
 use Rattle.theory.specs.Union.{refuses11}
 use Rattle.theory.specs.Laws.StepShape.{step-distinct}
 use Rattle.theory.specs.Laws.Lists.{any-append, any-map, any-flatMap, any-iff, numbers-iff}
-use Rattle.theory.specs.Laws.Scans.{someFrom, numberScans, skip, some-begins, some-later, some-found, NoneIn, none-yet, none-longer}
+use Rattle.theory.specs.Laws.Scans.{someFrom, numberScans, skip, some-begins, some-later, some-found, some-none, NoneIn, none-yet, none-longer}
 use Rattle.theory.specs.Laws.Scans.{records-length}
 use Rattle.words.specs.Records.{ruleIn}
 use Rattle.words.specs.Words.{queryOf, Small, rulesIn, unionIn, wordAtom}
@@ -131,7 +131,7 @@ module _ (r : QueryFound) (q : QueryWords) (i j : ℕ) (e : queryFound r ≡ mer
 
 -- ---- all steps from a member
 
-any-agree : (p q : ℕ → Bool) (xs : List ℕ) → ((x : ℕ) → p x ≡ q x) → any p xs ≡ any q xs
+pub any-agree : (p q : ℕ → Bool) (xs : List ℕ) → ((x : ℕ) → p x ≡ q x) → any p xs ≡ any q xs
 unfolding any
 any-agree p q [] h = refl
 any-agree p q (x ∷ xs) h = ap₂ _||_ (h x) (any-agree p q xs h)
@@ -144,7 +144,7 @@ module _ (out : Query → Bool) (f : ℕ → ℕ → Option Query) where
       ∙ any-agree (λ i. any out (flatMap (λ k. toList (f i k)) ks)) (λ i. any (λ k. any out (toList (f i k))) ks) is
       (λ i. any-flatMap out (λ k. toList (f i k)) ks)
 
-each-step : (union : UCQ) (rules : List Rule) (q : Query) → any (outside union) (steps rules q)
+pub each-step : (union : UCQ) (rules : List Rule) (q : Query) → any (outside union) (steps rules q)
     ≡ (any (rulesOut union q rules (length rules)) (numbers 0 (length (q .atoms))) || any (mergesOut union q (length (q .atoms)))
     (numbers 0 (length (q .atoms))))
 unfolding steps
@@ -184,11 +184,18 @@ module _ (rules : List Rule) (table : List ℕ) (n : ℕ) where
   abbrev pub memberOut : ℕ → Bool
   memberOut j = any (outside (unionIn table n)) (steps rules (memberIn table j .query))
 
-  pub is-eleven : (b : Bool) (q : Query) → b ≡ someFrom memberOut 0 n → b ≡ refuses11 rules q (unionIn table n)
+  is-eleven : (b : Bool) (q : Query) → b ≡ someFrom memberOut 0 n → b ≡ refuses11 rules q (unionIn table n)
   unfolding refuses11
   is-eleven b q e =
       e ∙ sym (ap (any (λ m. any (outside (unionIn table n)) (steps rules (m .query)))) (union-from table n 0)
       ∙ any-map (λ m. any (outside (unionIn table n)) (steps rules (m .query))) (memberIn table) (numbers 0 (n - 0)))
+
+  module _ (m : ℕ) (q : Query) (left : someFrom memberOut m n ≡ someFrom memberOut 0 n) where
+    pub member-out : (b : Bool) → m < n → b ≡ memberOut m → b ≡ true → true ≡ refuses11 rules q (unionIn table n)
+    member-out b h e t = is-eleven true q (some-found memberOut m n (someFrom memberOut 0 n) left b h e t)
+
+    pub members-in : n ≤ m → false ≡ refuses11 rules q (unionIn table n)
+    members-in h = is-eleven false q (some-none memberOut m n (someFrom memberOut 0 n) left h)
 
 pub ruleset laws = (
   needs,
@@ -209,5 +216,6 @@ pub ruleset laws = (
   merge-leads,
   atoms-lead,
   pairs-lead,
-  is-eleven,
+  member-out,
+  members-in,
 )

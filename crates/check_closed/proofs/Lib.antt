@@ -1,1 +1,2 @@
 pub mod ClosureLaws
+pub mod RuleTables

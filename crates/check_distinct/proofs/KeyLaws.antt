@@ -20,8 +20,8 @@ use Rattle.words.specs.Rows.{Rows, memberIn}
 use Rattle.words.specs.Laws.Rows.{rows, union-from, next-member}
 use Rattle.query_key.specs.Key.{key}
 use Rattle.query_key.specs.KeyLaws.{unlike-keys}
-use Rattle.check_chains.specs.Chains.{placeOf, Chains, Indexed}
-use Rattle.check_chains.specs.WalkLaws.{OnlyAt, Walked, walks}
+use Rattle.check_chains.specs.Chains.{placeOf}
+use Rattle.check_chains.specs.WalkLaws.{OnlyAt, walk-found, walk-ends, walks, is-indexed}
 use Rattle.check_distinct.specs.Keys.{Keys}
 
 -- ---- the keys are filled in
@@ -96,9 +96,6 @@ pub other-key : (q : QueryWords) (wanted : ℕ) (table keys : List ℕ) (n j : �
 other-key q wanted table keys n j u e rows ks h differ =
     sym (unlike-keys (queryOf q) (memberIn table j .query) u (rows .each j h .distinct) (λ d. differ (ks .each j h ∙ sym d ∙ sym e)))
 
-pub is-indexed : (words index : List ℕ) (n : ℕ) → Indexed words n index → 1024 ≤ length index → Chains words n index
-is-indexed words index n ix h = ix .chained h
-
 -- ---- two members
 
 pub member-distinct : (table : List ℕ) (n j : ℕ) (q : QueryWords) → Rows table n → j < n → queryOf q ≡ memberIn table j .query
@@ -157,4 +154,4 @@ pub ruleset laws = (
 )
 
 -- for the loop along a chain
-pub ruleset chainLaws = (needs, rows, key-room, members-from, keys-only, walks)
+pub ruleset chainLaws = (needs, rows, key-room, members-from, keys-only, walks, walk-found, walk-ends)

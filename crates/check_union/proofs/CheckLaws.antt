@@ -4,12 +4,11 @@ use Prim.Native.Nat.{ℕ}
 use native.Mathlib.Omega.{arith}
 use mathlib.Core.Bool.{Bool, true, false}
 use mathlib.Core.List.{List, [], _∷_}
-use lib.ListN.{replicate, length-replicate, getD-replicate}
 use borrow.Author.Needs.{needs}
 use Rattle.theory.specs.Refusals.{firstRefusal, numberOf}
 use Rattle.theory.specs.Syntax.{Rule, Query, UCQ}
 use Rattle.theory.specs.Union.{refuses7, refuses8, refuses9, refuses10, refuses11, check}
-use Rattle.check_chains.specs.Chains.{Cleared}
+use Rattle.check_chains.specs.WalkLaws.{cleared}
 
 -- 10 and 11
 abbrev lastTwo : List Rule → Query → UCQ → List (ℕ × Bool)
@@ -71,9 +70,5 @@ module _ (rules : List Rule) (q : Query) (union : UCQ) (a : Bool) (seven : (rs :
     gives-later r z later =
         later q ∙ later-decides (lastTwo rules q union) (refuses8 rules q union) (refuses9 rules q union) (sym (middle q) ∙ z)
         ∙ sym after-seven
-
--- an index of no words
-pub cleared : Cleared (replicate 1024 0)
-cleared = record { long = length-replicate {A = ℕ} 1024 0; zero = λ h l. getD-replicate {A = ℕ} 1024 h 0 0 (omega arith) }
 
 pub ruleset laws = (needs, cleared, gives-ten, gives-eleven, gives-none, gives-seven, gives-middle, gives-later)

@@ -9,12 +9,12 @@ use Rattle.check_closed.proofs.atoms_lead_outside.Statement.{statement}
 use Rattle.check_closed.proofs.atoms_lead_outside.Tie as tie
 
 abbrev Inv-loop : tie.InvT-loop
-Inv-loop rules count q table n keys index size i₀ i =
+Inv-loop rules count chains q table n keys index size i₀ i =
     (i ≤ size) × (someFrom (rulesOut (unionIn table n) (queryOf q) (rulesIn rules count) count) i size
     ≡ any (rulesOut (unionIn table n) (queryOf q) (rulesIn rules count) count) (numbers 0 size))
 
 abbrev μ-loop : tie.MeasureT-loop
-μ-loop rules count q table n keys index size i₀ i = size - i
+μ-loop rules count chains q table n keys index size i₀ i = size - i
 
 pub atoms-lead-outside-spec : {M : Type 1} → statement M
 atoms-lead-outside-spec =
