@@ -87,13 +87,23 @@ pub fn run(sheets: usize) {
         seen[number as usize] += 1;
     };
     for _ in 0..sheets {
-        let rules: Vec<Rule> = (0..draw.below(6)).map(|_| rule(&mut draw)).collect();
+        // in one sheet of eight so many, some of them repeated, that they are chained
+        let many = draw.below(8) == 0;
+        let count = if many {
+            12 + draw.below(40)
+        } else {
+            draw.below(6)
+        };
+        let rules: Vec<Rule> = (0..count).map(|_| rule(&mut draw)).collect();
         let numbering = match draw.below(3) {
             0 => Numbering::Kept,
             1 => Numbering::Reversed,
             _ => Numbering::Drawn(draw.below(1 << 30) as u64),
         };
-        let most = [512, 40, 1 + draw.below(6)][draw.below(3)];
+        let most = match many {
+            true => 12 + draw.below(60),
+            false => [512, 40, 1 + draw.below(6)][draw.below(3)],
+        };
         // the rules' partners are read, so that the steps are those of the sheet
         let packed: Vec<u8> = rules.iter().flat_map(|rule| rule.0.to_be_bytes()).collect();
         let read =
