@@ -2,12 +2,15 @@
 ghost use mathlib.Core.Path.{_≡_};
 ghost use Prim.Native.Nat.{_+_, _-_, _≤_, _<_};
 ghost use lib.ListN.{length, getD, set};
-ghost use Rattle.check_chains.specs.Chains.{places, placeOf, Last, Chains, Indexed, Cleared};
+ghost use Rattle.check_chains.specs.Chains.{places, placeOf, indexWords, Last, Chains, Indexed, Cleared};
 
 // How many places there are; an index has one number for each place, and one for each word.
 pub const PLACES: usize = 512;
 
 pub const INDEX_WORDS: usize = 1024;
+
+// Fewer words are gone through: an index is worth making from so many on.
+pub const MANY: usize = 16;
 
 // A number of the index.
 pub fn wide(x: u16) -> usize
@@ -20,12 +23,12 @@ pub fn wide(x: u16) -> usize
 pub fn place(word: u64) -> usize
     ensures { λ r. ⌜ (r ≡ placeOf word) × (r < places) ⌝ }
 {
-    (word % 512) as usize
+    (word % PLACES as u64) as usize
 }
 
 // Puts word j before the others of its place.
 pub fn put(word: u64, j: usize, index: &mut [u16])
-    requires { ⌜ (j < places) × (length (now index) ≡ 1024) ⌝ }
+    requires { ⌜ (j < places) × (length (now index) ≡ indexWords) ⌝ }
     ensures { λ r. ⌜ now (index .exit)
         ≡ set (set (now (index .entry)) (places + j) (getD (now (index .entry)) (placeOf word) 0)) (placeOf word) (j + 1) ⌝ }
 {
@@ -48,7 +51,7 @@ pub fn chain(words: &[u64], n: usize, index: &mut [u16])
 
 // The number after the last word at the place of the wanted one, or 0.
 pub fn last_with(words: &[u64], n: usize, index: &[u16], wanted: u64) -> usize
-    requires { ⌜ Chains (now words) n (now index) × (1024 ≤ length (now index)) ⌝ }
+    requires { ⌜ Chains (now words) n (now index) × (indexWords ≤ length (now index)) ⌝ }
     ensures { λ r. ⌜ Last (now (words .entry)) n (placeOf wanted) r ⌝ }
 {
     let at = place(wanted);
@@ -57,7 +60,7 @@ pub fn last_with(words: &[u64], n: usize, index: &[u16], wanted: u64) -> usize
 
 // The number after the word that stands at the same place before number `at`, or 0.
 pub fn before(words: &[u64], n: usize, index: &[u16], at: usize) -> usize
-    requires { ⌜ Chains (now words) n (now index) × (1024 ≤ length (now index)) × (0 < at) × (at ≤ n) ⌝ }
+    requires { ⌜ Chains (now words) n (now index) × (indexWords ≤ length (now index)) × (0 < at) × (at ≤ n) ⌝ }
     ensures { λ r. ⌜ Last (now (words .entry)) (at - 1) (placeOf (getD (now (words .entry)) (at - 1) 0)) r ⌝ }
 {
     let j = at - 1;

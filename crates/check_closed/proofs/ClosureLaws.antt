@@ -17,8 +17,8 @@ use Rattle.theory.specs.Renaming.{alike}
 use Rattle.theory.specs.Union.{refuses11}
 use Rattle.theory.specs.Laws.StepShape.{step-distinct}
 use Rattle.theory.specs.Laws.Lists.{any-append, any-map, any-flatMap, any-iff, numbers-iff}
-use Rattle.theory.specs.Laws.Scans.{someFrom, numberScans, skip, some-begins, some-later, some-found, some-none, NoneIn, none-yet, none-longer}
-use Rattle.theory.specs.Laws.Scans.{records-length}
+use Rattle.theory.specs.Laws.Scans.{someFrom, numberScans, skip, some-begins, some-later, some-found, some-none}
+use Rattle.theory.specs.Laws.Scans.{NoneIn, none-yet, none-longer, records-length}
 use Rattle.words.specs.Records.{ruleIn}
 use Rattle.words.specs.Words.{queryOf, Small, rulesIn, unionIn, wordAtom}
 use Rattle.words.specs.declared.QueryWords.{QueryWords}

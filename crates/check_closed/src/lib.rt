@@ -1,5 +1,6 @@
 // Refusal 11: every step from every member leads to a question that is alike to a member.
 use check_chains::INDEX_WORDS;
+use check_chains::MANY;
 use check_chains::PLACES;
 use check_chains::before;
 use check_chains::chain;
@@ -26,12 +27,9 @@ ghost use Rattle.theory.specs.Laws.Scans.{NoneIn};
 ghost use Rattle.words.specs.Words.{queryOf, Small, rulesIn, unionIn};
 ghost use Rattle.words.specs.Rows.{Rows, memberIn};
 ghost use Rattle.query_steps.specs.StepResults.{queryFound};
-ghost use Rattle.check_chains.specs.Chains.{places, Chains, Indexed};
+ghost use Rattle.check_chains.specs.Chains.{places, indexWords, Chains, Indexed};
 ghost use Rattle.check_distinct.specs.Keys.{Keys};
 ghost use Rattle.check_closed.specs.Outside.{outside, leadsOutside, ruleOut, rulesOut, mergesOut};
-
-// So many rules or members are many.
-const MANY: usize = 16;
 
 // Whether a step gives a question that is alike to no member.
 fn leads_outside(r: QueryFound, table: &[u64], n: usize, keys: &[u64], index: &[u16]) -> bool
@@ -160,8 +158,8 @@ fn rules_along(
     keys: &[u64],
     index: &[u16],
 ) -> bool
-    requires { ⌜ (count ≤ length (now rules)) × Chains (now rules) count (now chains) × (1024 ≤ length (now chains)) × Small q × (i < q .size)
-        × Rows (now table) n × Keys (now table) n (now keys) × Indexed (now keys) n (now index) ⌝ }
+    requires { ⌜ (count ≤ length (now rules)) × Chains (now rules) count (now chains) × (indexWords ≤ length (now chains)) × Small q
+        × (i < q .size) × Rows (now table) n × Keys (now table) n (now keys) × Indexed (now keys) n (now index) ⌝ }
     ensures { λ r. ⌜ r ≡ rulesOut (unionIn (now (table .entry)) n) (queryOf q) (rulesIn (now (rules .entry)) count) count i ⌝ }
 {
     let atoms = q.atoms;
@@ -209,8 +207,8 @@ fn atoms_lead_outside(
     keys: &[u64],
     index: &[u16],
 ) -> bool
-    requires { ⌜ (count ≤ length (now rules)) × Indexed (now rules) count (now chains) × Small q × Rows (now table) n × Keys (now table) n (now keys)
-        × Indexed (now keys) n (now index) ⌝ }
+    requires { ⌜ (count ≤ length (now rules)) × Indexed (now rules) count (now chains) × Small q
+        × Rows (now table) n × Keys (now table) n (now keys) × Indexed (now keys) n (now index) ⌝ }
     ensures { λ r. ⌜ r ≡ any (rulesOut (unionIn (now (table .entry)) n) (queryOf q) (rulesIn (now (rules .entry)) count) count)
         (numbers 0 (q .size)) ⌝ }
 {

@@ -18,7 +18,7 @@ ghost use Rattle.theory.specs.Union.{refuses10 as refusesTen};
 ghost use Rattle.words.specs.Words.{queryOf, Small, unionIn};
 ghost use Rattle.words.specs.Rows.{Rows, memberIn};
 ghost use Rattle.query_key.specs.Key.{key};
-ghost use Rattle.check_chains.specs.Chains.{Chains, Indexed};
+ghost use Rattle.check_chains.specs.Chains.{indexWords, Chains, Indexed};
 ghost use Rattle.check_distinct.specs.Keys.{Keys};
 
 // The keys of the n members are put into the list.
@@ -104,7 +104,7 @@ fn alike_along(
     from: usize,
 ) -> bool
     requires { ⌜ Small q × Unrepeated (queryOf q .atoms) × (wanted ≡ key (queryOf q)) × Rows (now table) n × Keys (now table) n (now keys)
-        × Chains (now keys) n (now index) × (1024 ≤ length (now index)) × (from ≤ n) ⌝ }
+        × Chains (now keys) n (now index) × (indexWords ≤ length (now index)) × (from ≤ n) ⌝ }
     ensures { λ r. ⌜ r ≡ any (λ m. alikeIn (queryOf q) (m .query)) (drop from (unionIn (now (table .entry)) n)) ⌝ }
 {
     let mut at = last_with(keys, n, index, wanted);

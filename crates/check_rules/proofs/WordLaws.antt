@@ -64,7 +64,12 @@ module _ (rules words : List ℕ) (k m : ℕ) (same : SameWords rules k words m)
     }
 
 pub none-taken : (rules words : List ℕ) → SameWords rules 0 words 0
-none-taken rules words = record { room = omega arith; fewer = omega arith; all = λ k l. absurd (omega arith); only = λ j l. absurd (omega arith) }
+none-taken rules words = record {
+  room = omega arith;
+  fewer = omega arith;
+  all = λ k l. absurd (omega arith);
+  only = λ j l. absurd (omega arith);
+}
 
 pub all-taken : (rules words : List ℕ) (k count m : ℕ) → SameWords rules k words m → k ≤ count → count ≤ k → SameWords rules count words m
 all-taken rules words k count m same h g = let e : k ≡ count = omega arith in subst (λ n. SameWords rules n words m) e same

@@ -7,6 +7,7 @@ use check_chains::wide;
 ghost use mathlib.Core.Path.{_≡_};
 ghost use Prim.Native.Nat.{_+_, _≤_, _<_};
 ghost use lib.ListN.{length};
+ghost use Rattle.check_chains.specs.Chains.{places, indexWords};
 ghost use Rattle.check_rules.specs.SameWords.{OnlyIfAmong, SameWords};
 
 // A number that all bits of a rule's word decide. The words so far are chained by it; what is promised needs nothing of these chains: a
@@ -17,7 +18,7 @@ fn code(word: u64) -> u64 {
 
 // Whether the word is found among the first n by the chains.
 fn found(word: u64, words: &[u64], n: usize, chains: &[u16]) -> bool
-    requires { ⌜ (n ≤ length (now words)) × (n ≤ 512) × (length (now chains) ≡ 1024) ⌝ }
+    requires { ⌜ (n ≤ length (now words)) × (n ≤ places) × (length (now chains) ≡ indexWords) ⌝ }
     ensures { λ r. ⌜ OnlyIfAmong word (now (words .entry)) n r ⌝ }
 {
     let mut at = wide(chains[place(code(word))]);
@@ -39,7 +40,7 @@ fn found(word: u64, words: &[u64], n: usize, chains: &[u16]) -> bool
 
 // Takes rule k into the words, unless it is found among them. The number of words then.
 fn take(rules: &[u64], k: usize, words: &mut [u64], m: usize, chains: &mut [u16]) -> usize
-    requires { ⌜ (k < length (now rules)) × (k < 512) × (512 ≤ length (now words)) × (length (now chains) ≡ 1024)
+    requires { ⌜ (k < length (now rules)) × (k < places) × (places ≤ length (now words)) × (length (now chains) ≡ indexWords)
         × SameWords (now rules) k (now words) m ⌝ }
     ensures { λ r. ⌜ SameWords (now (rules .entry)) (k + 1) (now (words .exit)) r ⌝ }
 {
@@ -54,7 +55,7 @@ fn take(rules: &[u64], k: usize, words: &mut [u64], m: usize, chains: &mut [u16]
 
 // Puts the first `count` words of the rule table into the other, a word that stands there already passed over. Their number.
 pub fn distinct(rules: &[u64], count: usize, words: &mut [u64]) -> usize
-    requires { ⌜ (count ≤ length (now rules)) × (count ≤ 512) × (512 ≤ length (now words)) ⌝ }
+    requires { ⌜ (count ≤ length (now rules)) × (count ≤ places) × (places ≤ length (now words)) ⌝ }
     ensures { λ m. ⌜ SameWords (now (rules .entry)) count (now (words .exit)) m ⌝ }
 {
     let mut chains = [0u16; INDEX_WORDS];

@@ -194,7 +194,8 @@ module _ (rules : List Rule) (table : List ℕ) (n k : ℕ) (q : Query) (before 
   unfolding firstRefusal numberOf
   one-fails b d h e t =
       let found : true ≡ refuses8 rules q (unionIn table n) =
-      is-eight rules table n true q (some-found (failsAt rules table n) k n (someFrom (failsAt rules table n) 1 n) (before .fails) b h (e .fails-is) t) in
+      is-eight rules table n true q
+      (some-found (failsAt rules table n) k n (someFrom (failsAt rules table n) 1 n) (before .fails) b h (e .fails-is) t) in
       simp (sym found)
 
   pub one-unlike : (r : ℕ) (b d : Bool) → k < n
@@ -203,7 +204,8 @@ module _ (rules : List Rule) (table : List ℕ) (n k : ℕ) (q : Query) (before 
       → r ≡ numberOf (firstRefusal (eightThen rules q (unionIn table n) nineHere))
   one-unlike r b d h e t f =
       let found : true ≡ nineHere =
-      is-nine rules table n true q (some-found (unlikeAt rules table n) k n (someFrom (unlikeAt rules table n) 1 n) (before .unlike) d h (e .unlike-is) t) in
+      is-nine rules table n true q
+      (some-found (unlikeAt rules table n) k n (someFrom (unlikeAt rules table n) 1 n) (before .unlike) d h (e .unlike-is) t) in
       f q ∙ ap (λ c. numberOf (firstRefusal (eightThen rules q (unionIn table n) c))) found
 
   pub neither : n ≤ k → 0 ≡ numberOf (firstRefusal (eightThen rules q (unionIn table n) nineHere))

@@ -1,5 +1,6 @@
 // Refusals 7 to 11, in the order of 01's list.
 use check_chains::INDEX_WORDS;
+use check_chains::MANY;
 use check_chains::PLACES;
 use check_chains::chain;
 use check_closed::refuses11;
@@ -19,9 +20,6 @@ ghost use Rattle.words.specs.Words.{queryOf, Small, rulesIn, unionIn};
 ghost use Rattle.words.specs.Rows.{Rows};
 ghost use Rattle.check_chains.specs.Chains.{places, Indexed};
 ghost use Rattle.check_distinct.specs.Keys.{Keys};
-
-// Unions of fewer members are gone through: an index is worth making from so many on.
-const MANY_MEMBERS: usize = 16;
 
 // The first of refusals 10 and 11 that applies, or 0, with the members' keys and perhaps an index of them.
 fn decide_alike(
@@ -66,7 +64,7 @@ fn check_alike(rules: &[u64], count: usize, table: &[u64], n: usize, keys: &mut 
         ∷ (11, refusesEleven (rulesIn (now (rules .entry)) count) q (unionIn (now (table .entry)) n)) ∷ []))) ⌝ }
 {
     fill_keys(table, n, keys);
-    if MANY_MEMBERS <= n {
+    if MANY <= n {
         if n <= PLACES {
             return decide_indexed(rules, count, table, n, keys);
         }

@@ -21,5 +21,5 @@ abbrev μ-loop : tie.MeasureT-loop
 pub alike-along-spec : {M : Type 1} → statement M
 alike-along-spec =
     tie.close
-    (tie.spec Inv-loop μ-loop (λ c κs. search chainLaws) (λ c. search chainLaws) (λ c. search chainLaws) (λ c κs. search chainLaws) (λ c. search chainLaws)
-    (λ c κs. search chainLaws) (λ c. search chainLaws) (λ c. search chainLaws) (λ c. search chainLaws))
+    (tie.spec Inv-loop μ-loop (λ c κs. search chainLaws) (λ c. search chainLaws) (λ c. search chainLaws) (λ c κs. search chainLaws)
+    (λ c. search chainLaws) (λ c κs. search chainLaws) (λ c. search chainLaws) (λ c. search chainLaws) (λ c. search chainLaws))
