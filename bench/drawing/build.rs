@@ -4,9 +4,7 @@ use std::process::Command;
 
 /// What the command prints.
 fn output(command: &mut Command) -> String {
-    let said = command
-        .output()
-        .unwrap_or_else(|error| panic!("{command:?}: {error}"));
+    let said = command.output().unwrap_or_else(|error| panic!("{command:?}: {error}"));
     assert!(
         said.status.success(),
         "{command:?}: {}",
@@ -22,12 +20,8 @@ fn renaming(archive: &Path) -> String {
             .args(["--defined-only", "--extern-only", "--format=just-symbols"])
             .arg(archive),
     );
-    let names = listed
-        .lines()
-        .filter(|line| !line.is_empty() && !line.ends_with(':'));
-    names
-        .map(|name| format!("{name} before_{name}\n"))
-        .collect()
+    let names = listed.lines().filter(|line| !line.is_empty() && !line.ends_with(':'));
+    names.map(|name| format!("{name} before_{name}\n")).collect()
 }
 
 /// The wrapper's calls of the library, by the new names: what is unsafe stands there and nowhere else. (A file that is taken into a
@@ -51,11 +45,11 @@ fn main() {
     let folder = PathBuf::from(std::env::var_os("OUT_DIR").expect("cargo sets it"));
     let names = folder.join("names");
     std::fs::write(&names, renaming(&archive)).expect("the folder can be written");
-    output(Command::new("objcopy").arg("--redefine-syms").args([
-        &names,
-        &archive,
-        &folder.join("libbefore.a"),
-    ]));
+    output(
+        Command::new("objcopy")
+            .arg("--redefine-syms")
+            .args([&names, &archive, &folder.join("libbefore.a")]),
+    );
     let wrapper = Path::new("../../rust/src/linked.rs");
     println!("cargo:rerun-if-changed={}", wrapper.display());
     std::fs::write(folder.join("linked.rs"), calls(wrapper)).expect("the folder can be written");

@@ -1,4 +1,4 @@
-//! Time for drawing answers with the proved library, beside a plain Rust program of the same search and the `sqlite3` command, on the
+//! Time for drawing answers with the proved library, beside a plain Rust program of the same algorithm and the `sqlite3` command, on the
 //! same sheets in the same run.
 //!
 //! What they give is compared first, and the run stops if they differ. Then they take turns; the best turn counts. Time is the
@@ -7,7 +7,10 @@ mod before;
 mod cases;
 mod clock;
 mod compare;
+mod desk;
 mod plain;
+mod probe;
+mod process;
 mod proved;
 mod sql;
 mod tables;
@@ -31,10 +34,24 @@ impl From<takwishan::Answers> for Drawn {
 
 fn main() {
     let arguments: Vec<String> = std::env::args().skip(1).collect();
-    match &arguments[..] {
-        [] => tables::all::print(None),
-        [table] if table == "scan" => tables::scan::print(None),
-        [table, part] if table == "scan" => tables::scan::print(Some(part)),
-        [part, ..] => tables::all::print(Some(part)),
+    let arguments: Vec<&str> = arguments.iter().map(String::as_str).collect();
+    match arguments[..] {
+        [] => {
+            tables::all::print(None);
+            tables::full::print(None);
+            tables::bad::print(None);
+            tables::growth::print();
+        }
+        ["once", which, folder, list] => probe::answer_once(which, folder, list),
+        ["growth"] => tables::growth::print(),
+        [table, ref rest @ ..] => {
+            let print = match table {
+                "all" => tables::all::print,
+                "full" => tables::full::print,
+                "bad" => tables::bad::print,
+                _ => panic!("there is no table {table}"),
+            };
+            print(rest.first().copied());
+        }
     }
 }

@@ -1,23 +1,9 @@
-//! The same union as SQL, drawn by the `sqlite3` command from a database with indexes that is made before. Its time is what its own
-//! `.timer` says of the processor, user and system, the best of several runs in one process, the output thrown away.
-use crate::cases::{Atom, Case, Query, Term};
-use std::fmt::Write;
-use std::path::PathBuf;
-use std::process::{Command, Stdio};
+//! The same union as an SQL statement: a `UNION` of joins, one for each member.
+use crate::cases::sheets::{Atom, Query, Term};
+use crate::cases::Case;
 
 /// sqlite3 takes no more than 500 parts in one compound.
 const PARTS: usize = 128;
-
-/// A folder for the database and the scripts, removed at the end.
-pub struct Desk {
-    folder: PathBuf,
-}
-
-impl Drop for Desk {
-    fn drop(&mut self) {
-        let _ = std::fs::remove_dir_all(&self.folder);
-    }
-}
 
 /// A join in the making: its tables, its conditions, and the column that a variable first stood in.
 #[derive(Default)]
@@ -111,8 +97,7 @@ fn member(query: &Query) -> String {
         };
         answers.push(format!("{value} AS a{k}"));
         // a lost tag is in no answer
-        join.wants
-            .push(format!("{value} NOT BETWEEN 65024 AND 65535"));
+        join.wants.push(format!("{value} NOT BETWEEN 65024 AND 65535"));
     }
     if answers.is_empty() {
         answers.push("1".to_string());
@@ -125,12 +110,9 @@ fn member(query: &Query) -> String {
 }
 
 /// The whole union, ascending.
-fn statement(case: &Case) -> String {
+pub fn statement(case: &Case) -> String {
     let members: Vec<String> = case.members.iter().map(member).collect();
-    let parts: Vec<String> = members
-        .chunks(PARTS)
-        .map(|part| part.join(" UNION "))
-        .collect();
+    let parts: Vec<String> = members.chunks(PARTS).map(|part| part.join(" UNION ")).collect();
     let union = match &parts[..] {
         [one] => one.clone(),
         _ => parts
@@ -143,88 +125,4 @@ fn statement(case: &Case) -> String {
         .map(|k| k.to_string())
         .collect();
     format!("{union} ORDER BY {};\n", order.join(","))
-}
-
-impl Desk {
-    /// `None` where there is no `sqlite3` command.
-    pub fn new() -> Option<Desk> {
-        let version = Command::new("sqlite3").arg("--version").output().ok()?;
-        if !version.status.success() {
-            return None;
-        }
-        let folder = std::env::temp_dir().join(format!("drawing-{}", std::process::id()));
-        std::fs::create_dir_all(&folder).ok()?;
-        Some(Desk { folder })
-    }
-
-    /// What the command prints, given a script.
-    fn run(&self, script: &str) -> String {
-        let path = self.folder.join("script.sql");
-        std::fs::write(&path, script).expect("the script can be written");
-        let output = Command::new("sqlite3")
-            .arg("-batch")
-            .arg(self.folder.join("facts.db"))
-            .stdin(std::fs::File::open(&path).expect("it was written"))
-            .stderr(Stdio::inherit())
-            .output()
-            .expect("sqlite3 runs");
-        assert!(output.status.success(), "sqlite3 refuses the script");
-        String::from_utf8(output.stdout).expect("it prints text")
-    }
-
-    /// Makes the database of the case's facts.
-    pub fn load(&self, case: &Case) {
-        let _ = std::fs::remove_file(self.folder.join("facts.db"));
-        let mut script = String::from(
-            "CREATE TABLE concept(number INT, object INT, PRIMARY KEY(number, object)) WITHOUT ROWID;\n\
-             CREATE TABLE role(number INT, first INT, second INT, PRIMARY KEY(number, first, second)) WITHOUT ROWID;\n\
-             CREATE INDEX back ON role(number, second, first);\nBEGIN;\n",
-        );
-        for &(role, number, first, second) in &case.entries {
-            if role {
-                writeln!(
-                    script,
-                    "INSERT INTO role VALUES({number},{first},{second});"
-                )
-                .expect("memory");
-            } else {
-                writeln!(script, "INSERT INTO concept VALUES({number},{first});").expect("memory");
-            }
-        }
-        script.push_str("COMMIT;\nANALYZE;\n");
-        self.run(&script);
-    }
-
-    /// The bytes of the answer list, and the number of answers.
-    pub fn answers(&self, case: &Case) -> (Vec<u8>, usize) {
-        let mut bytes = Vec::new();
-        let mut count = 0;
-        for line in self.run(&statement(case)).lines() {
-            count += 1;
-            if !case.members[0].answers.is_empty() {
-                for object in line.split('|') {
-                    let object: u16 = object.parse().expect("an object's number");
-                    bytes.extend(object.to_be_bytes());
-                }
-            }
-        }
-        (bytes, count)
-    }
-
-    /// Seconds for the best of so many runs.
-    pub fn seconds(&self, case: &Case, runs: usize) -> f64 {
-        let mut script = String::from(".output /dev/null\n.timer on\n");
-        for _ in 0..runs {
-            script.push_str(&statement(case));
-        }
-        let mut best = f64::INFINITY;
-        for line in self.run(&script).lines() {
-            let words: Vec<&str> = line.split_whitespace().collect();
-            if let ["Run", "Time:", "real", _, "user", user, "sys", system] = words[..] {
-                let parse = |word: &str| word.parse::<f64>().expect("seconds");
-                best = best.min(parse(user) + parse(system));
-            }
-        }
-        best
-    }
 }

@@ -24,32 +24,8 @@ const BETTER: f64 = 0.002;
 /// and all calls but the first find the processor as the same call left it.
 const TURN_SECONDS: f64 = 0.002;
 
-/// The seconds that each call took, in rounds in which each had its turn, and those of its best turn.
-pub struct Turns<const N: usize> {
-    rounds: Vec<[f64; N]>,
-    pub best: [f64; N],
-}
-
-impl<const N: usize> Turns<N> {
-    /// Whether the round has some better time than all before it.
-    fn add(&mut self, round: [f64; N]) -> bool {
-        let better = (0..N).any(|i| round[i] < self.best[i] * (1.0 - BETTER));
-        self.best = std::array::from_fn(|i| self.best[i].min(round[i]));
-        self.rounds.push(round);
-        better
-    }
-
-    /// One call's time by another's, the median over the rounds: what slows both for a while does not change it.
-    pub fn ratio(&self, one: usize, other: usize) -> f64 {
-        let ratios = self.rounds.iter().map(|round| round[one] / round[other]);
-        median(ratios.collect())
-    }
-}
-
-pub fn median(mut numbers: Vec<f64>) -> f64 {
-    numbers.sort_by(f64::total_cmp);
-    (numbers[(numbers.len() - 1) / 2] + numbers[numbers.len() / 2]) / 2.0
-}
+/// A call that takes longer than this has one turn.
+const LONG_SECONDS: f64 = 1.0;
 
 fn run(call: Call, case: &Case, list: &mut [u8]) {
     match call {
@@ -76,25 +52,24 @@ fn turn(call: Call, case: &Case, list: &mut [u8]) -> f64 {
     }
 }
 
-/// Round after round until the span is over.
-pub fn take<const N: usize>(calls: [Call; N], case: &Case, span: &Span) -> Turns<N> {
+/// The seconds of each call's best turn: round after round until the span is over.
+pub fn take<const N: usize>(calls: [Call; N], case: &Case, span: &Span) -> [f64; N] {
     let mut list = vec![0; case.list];
-    let mut turns = Turns {
-        rounds: Vec::new(),
-        best: [f64::INFINITY; N],
-    };
-    let mut last_better = 0;
+    let mut best = [f64::INFINITY; N];
+    let (mut rounds, mut last_better) = (0, 0);
     let begin = clock::seconds();
     loop {
-        let better = turns.add(calls.map(|call| turn(call, case, &mut list)));
-        let rounds = turns.rounds.len();
-        if better {
+        let round = calls.map(|call| turn(call, case, &mut list));
+        rounds += 1;
+        if (0..N).any(|i| round[i] < best[i] * (1.0 - BETTER)) {
             last_better = rounds;
         }
+        best = std::array::from_fn(|i| best[i].min(round[i]));
         let spent = clock::seconds() - begin;
         let settled = spent >= span.most_seconds || 2 * last_better <= rounds;
-        if rounds >= span.rounds && spent >= span.seconds && settled {
-            return turns;
+        let long = best.iter().any(|&seconds| seconds > LONG_SECONDS);
+        if long || rounds >= span.rounds && spent >= span.seconds && settled {
+            return best;
         }
     }
 }

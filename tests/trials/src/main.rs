@@ -1,7 +1,12 @@
 //! Compares the library with the second implementation on sheets by chance, sound and damaged. Fails if they differ anywhere, or
 //! if too few of the cases were of the kinds that matter. Arguments: seed and number of cases.
 
+mod dense_counts;
 mod lent;
+#[cfg(test)]
+mod memo_search;
+#[cfg(test)]
+mod memo_tables;
 mod near_counts;
 mod tally;
 mod writing;
@@ -19,6 +24,8 @@ const CASES: u64 = 24_000;
 const ONE_OF_MANY_IN: u64 = 100;
 /// One in so many has a near miss beside it, and a needed fact at some place.
 const ONE_NEAR_MISS_IN: u64 = 5;
+/// One in so many has a dense case beside it.
+const ONE_DENSE_IN: u64 = 15;
 /// Differences that are printed before the run is given up.
 const MOST_DIFFERENCES: usize = 10;
 
@@ -94,6 +101,9 @@ fn run(seed: u64, cases: u64) -> bool {
         }
         if case % ONE_NEAR_MISS_IN == 0 {
             tally.compare_near(&format!("case {case}"), case / ONE_NEAR_MISS_IN, &mut chance);
+        }
+        if case % ONE_DENSE_IN == 0 {
+            tally.compare_dense(seed, case / ONE_DENSE_IN);
         }
         if tally.differences >= MOST_DIFFERENCES {
             println!("given up after {} cases", case + 1);

@@ -1,6 +1,7 @@
 //! Calls the library and compares what it does with what the second implementation expects; counts what kinds of cases were met.
-//! Writing and near misses have files of their own.
+//! Writing, near misses and dense cases have files of their own.
 
+use crate::dense_counts::DenseCounts;
 use crate::lent::Lent;
 use crate::near_counts::NearCounts;
 use crate::writing::Writings;
@@ -30,6 +31,7 @@ pub struct Tally {
     most_answers: usize,
     pub writings: Writings,
     pub near: NearCounts,
+    pub dense: DenseCounts,
     pub differences: usize,
 }
 
@@ -207,6 +209,7 @@ impl Tally {
             "near misses and needed facts that chance did not give: {}",
             self.near.not_given
         );
+        println!("dense cases that chance did not give: {}", self.dense.not_given);
         let mut enough = true;
         let mut count = |what: &str, got: u64, least: u64| {
             println!("{what}: {got} (at least {least})");
@@ -241,7 +244,8 @@ impl Tally {
             self.need_lost_tag,
             100,
         );
-        for (what, got, least) in self.writings.counts().into_iter().chain(self.near.counts()) {
+        let others = [self.writings.counts(), self.near.counts(), self.dense.counts()];
+        for (what, got, least) in others.concat() {
             count(&what, got, least);
         }
         println!("differences: {}", self.differences);

@@ -1,12 +1,11 @@
-//! All cases: the proved library beside a plain Rust program of the same algorithm and the `sqlite3` command, the worst first.
-use super::{answers, chosen, drawing, head, ms, row};
-use crate::cases::{self, Case};
+//! All that a register may ask: the proved library beside the plain program of the same algorithm and the `sqlite3` command, worst first.
+use super::{answers, chosen, drawing, head, ms, ms_or, ratio, row};
+use crate::cases::{all, Case};
 use crate::compare::compare;
-use crate::plain::{self, Words};
+use crate::desk::Desk;
 use crate::proved::LIBRARY;
-use crate::sql::Desk;
 use crate::turns::{self, Call, Span};
-use crate::Drawn;
+use crate::{plain, Drawn};
 
 /// Drawing alone is a difference, which takes many turns to be told.
 const SPAN: Span = Span {
@@ -33,22 +32,22 @@ const COLUMNS: [&str; 12] = [
     "sqlite3",
 ];
 
-fn sqlite(case: &Case, desk: &Desk) -> f64 {
-    let once = desk.seconds(case, 1);
-    let runs = (SQLITE_SECONDS / once) as usize + 3;
-    desk.seconds(case, runs).min(once)
+/// The best of some runs of sqlite3.
+pub fn sqlite(case: &Case, desk: &Desk, limit: f64) -> Option<f64> {
+    let once = desk.seconds(case, 1, limit)?;
+    let runs = (SQLITE_SECONDS / once.max(1e-5)).min(1000.0) as usize + 1;
+    Some(desk.seconds(case, runs, limit)?.min(once))
 }
 
 /// A line of the table, and by what the lines are sorted.
-fn line(case: &Case, drawn: Drawn, desk: Option<&Desk>) -> (f64, String) {
+fn line(case: &Case, drawn: Drawn, desk: &Desk) -> (f64, String) {
     let calls = [
         Call::Answer(LIBRARY.answer),
         Call::Check(LIBRARY.check),
-        Call::Answer(plain::answer::<Words>),
+        Call::Answer(plain::answer),
     ];
-    let [answer, check, plain] = turns::take(calls, case, &SPAN).best;
+    let [answer, check, plain] = turns::take(calls, case, &SPAN);
     let drawing = drawing(answer, check);
-    let ratio = drawing / plain;
     let line = row(&[
         &case.name,
         &case.members.len().to_string(),
@@ -59,19 +58,19 @@ fn line(case: &Case, drawn: Drawn, desk: Option<&Desk>) -> (f64, String) {
         &ms(check),
         &ms(drawing),
         &ms(plain),
-        &format!("{:.2}", answer / plain),
-        &format!("{ratio:.2}"),
-        &desk.map_or("not installed".to_string(), |desk| ms(sqlite(case, desk))),
+        &ratio(answer, plain),
+        &ratio(drawing, plain),
+        &ms_or(sqlite(case, desk, f64::INFINITY), "-"),
     ]);
-    (ratio, line)
+    (drawing / plain, line)
 }
 
 pub fn print(part: Option<&str>) {
     let desk = Desk::new();
     let mut lines = Vec::new();
-    for case in cases::all().iter().filter(|case| chosen(case, part)) {
-        let drawn = compare(case, desk.as_ref());
-        let (ratio, line) = line(case, drawn, desk.as_ref());
+    for case in all::cases().iter().filter(|case| chosen(case, part)) {
+        let drawn = compare(case, &desk);
+        let (ratio, line) = line(case, drawn, &desk);
         eprintln!("{line}");
         lines.push((ratio, line));
     }

@@ -1,9 +1,11 @@
 //! The tables, and what they share.
 pub mod all;
-pub mod scan;
+pub mod bad;
+pub mod full;
+pub mod growth;
 
 use crate::cases::Case;
-use crate::Drawn;
+use crate::{probe, Drawn};
 
 /// A line of a table.
 fn row(cells: &[&str]) -> String {
@@ -39,7 +41,21 @@ fn ms(seconds: f64) -> String {
     }
 }
 
+/// The same of what may not have been measured.
+fn ms_or(seconds: Option<f64>, otherwise: &str) -> String {
+    seconds.map_or(otherwise.to_string(), ms)
+}
+
+fn ratio(one: f64, other: f64) -> String {
+    format!("{:.2}", one / other)
+}
+
 /// The drawing's part of a call: without what checking the same sheets takes.
 fn drawing(answer: f64, check: f64) -> f64 {
     (answer - check).max(0.0)
+}
+
+/// In place of the time of a call that did not end.
+fn too_long() -> String {
+    format!("> {:.0}", probe::limit() * 1e3)
 }

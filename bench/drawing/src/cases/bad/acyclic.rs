@@ -1,0 +1,151 @@
+//! Bad sheets whose questions have no ring.
+use super::{Group, Lines, NO_RULES, P, Q};
+use crate::cases::relations::{
+    apart, ask, chain, dense, drawn, names, role, square, star, tournament, tree, under_all,
+};
+use crate::cases::sheets::{var, Atom, Fact, Rule};
+use crate::cases::{full_sheet_in, Draw, Order, SHORT};
+
+pub fn add(lines: &mut Lines) {
+    products(lines);
+    dead_in_the_middle(lines);
+    dead_layers(lines);
+    trees(lines);
+    small_trees(lines);
+    one_answer(lines);
+    too_many(lines);
+    found(lines);
+}
+
+/// Products of atoms that share no variable, with a dead end at the end.
+fn products(lines: &mut Lines) {
+    let mut query = ask(&[], apart(&[P, P]));
+    query.atoms.push(Atom::Concept(6, var(4)));
+    lines.acyclic("P(x,y), P(z,w), Q(s), no Q", NO_RULES, query, square(P, 99));
+    let answered: [(&[usize], &str); 3] = [
+        (&[], "seven apart, a role to itself that has none"),
+        (&[0], "the same, one asked"),
+        (&[0, 14], "the same, two asked"),
+    ];
+    for (answers, name) in answered {
+        let mut query = ask(answers, apart(&[P; 7]));
+        query.atoms.push(role(Q, 14, 14));
+        let mut facts = square(P, 99);
+        facts.push((true, Q, 1, 2));
+        lines.acyclic(name, NO_RULES, query, facts);
+    }
+    let query = ask(&[0, 2, 4, 6], apart(&[P; 8]));
+    lines.acyclic("eight apart, four asked", NO_RULES, query, square(P, 100));
+    let query = ask(&[0], apart(&[P; 8]));
+    lines.acyclic("eight apart, one asked", NO_RULES, query, square(P, 100));
+}
+
+/// A chain over a dense relation, its fourth role's facts such that it has no match.
+fn dead_in_the_middle(lines: &mut Lines) {
+    let mut facts = square(P, 99);
+    facts.extend([(true, Q, 5_000, 5_001), (true, Q, 5, 5_001), (true, Q, 5_000, 5)]);
+    let roles = [P, P, P, Q, P, P, P, P];
+    let asked: [&[usize]; 4] = [&[], &[0], &[8], &[0, 8]];
+    for answers in asked {
+        let name = format!("dead in the middle of eight, {} asked", answers.len());
+        lines.acyclic(&name, NO_RULES, ask(answers, chain(&roles)), facts.clone());
+    }
+}
+
+/// Eight dense layers, the last apart from the others.
+fn dead_layers(lines: &mut Lines) {
+    let roles: Vec<u64> = (20..28).collect();
+    let layers = |side: u64| -> Vec<Fact> {
+        let layer = |r: u64| (100 * (r - 20), side);
+        let mut facts: Vec<Fact> = (20..27).flat_map(|r| dense(r, layer(r), layer(r + 1))).collect();
+        facts.extend((0..side).map(|x| (true, 27, 5_000 + x, x)));
+        facts
+    };
+    let query = ask(&[0], chain(&roles));
+    lines.acyclic("dense layers, dead end", NO_RULES, query.clone(), layers(37));
+    let counts: Vec<(u64, u64)> = roles.iter().map(|&r| (r, if r == 27 { 4 } else { 2 })).collect();
+    let facts = under_all(&layers(26), &counts);
+    lines.acyclic("the same with names", &names(&counts), query, facts);
+}
+
+/// Chains, stars and trees over dense relations and over a tournament.
+fn trees(lines: &mut Lines) {
+    let relations = [
+        ("100 x 100", square(P, 100)),
+        ("tournament", tournament(P, 141, &mut Draw::new())),
+    ];
+    let (chain_of_eight, star_of_eight) = (chain(&[P; 8]), star(&[P; 8]));
+    let shapes: [(&str, &[usize], &[Atom]); 8] = [
+        ("chain of eight, both ends asked", &[0, 8], &chain_of_eight),
+        ("chain of eight, middle asked", &[4], &chain_of_eight),
+        ("star of eight, middle asked", &[0], &star_of_eight),
+        ("star of eight, two leaves asked", &[1, 2], &star_of_eight),
+        ("star of eight, four leaves asked", &[1, 2, 3, 4], &star_of_eight),
+        ("tree of eight, root asked", &[0], &tree(P)),
+        ("tree of eight, two leaves asked", &[7, 8], &tree(P)),
+        ("tree of eight, four asked", &[1, 2, 3, 4], &tree(P)),
+    ];
+    let both_ways: [(&str, &[usize], &[Atom]); 2] = [
+        ("star of eight both ways, two leaves asked", &[1, 2], &star_of_eight),
+        ("chain of four both ways, both ends asked", &[0, 4], &chain(&[P; 4])),
+    ];
+    for (said, facts) in relations {
+        let mut add = |shape: &str, rules: &[Rule], answers: &[usize], atoms: &[Atom]| {
+            let name = format!("{shape}, {said}");
+            lines.acyclic(&name, rules, ask(answers, atoms.to_vec()), facts.clone());
+        };
+        for (shape, answers, atoms) in shapes {
+            add(shape, NO_RULES, answers, atoms);
+        }
+        for (shape, answers, atoms) in both_ways {
+            add(shape, &[Rule::both_ways(P)], answers, atoms);
+        }
+    }
+}
+
+/// The same over few objects.
+fn small_trees(lines: &mut Lines) {
+    let query = ask(&[0, 8, 0, 8], chain(&[P; 8]));
+    lines.acyclic("chain of eight, both ends twice, 8 x 8", NO_RULES, query, square(P, 8));
+    let query = ask(&[1, 2, 3, 4], star(&[P; 8]));
+    lines.acyclic("star of eight, four asked, 8 x 8", NO_RULES, query, square(P, 8));
+}
+
+/// Every match gives the same answer: all objects of a dense relation lead to one object.
+fn one_answer(lines: &mut Lines) {
+    let mut facts = square(P, 99);
+    facts.extend((0..99).map(|x| (true, Q, x, 5_000)));
+    let roles = [P, P, P, P, P, P, P, Q];
+    let query = ask(&[8], chain(&roles));
+    lines.acyclic("chain of eight, all answers equal", NO_RULES, query, facts.clone());
+    let query = ask(&[8, 8, 8, 8], star(&roles));
+    lines.acyclic("star of eight, all answers equal", NO_RULES, query, facts.clone());
+    let query = ask(&[8], chain(&roles));
+    let rules = [Rule::some(5, P)];
+    lines.acyclic("chain of eight with a rule, all answers equal", &rules, query, facts);
+}
+
+/// Answers that do not fit: the facts in each order, the answer terms in both.
+fn too_many(lines: &mut Lines) {
+    for order in [Order::Rising, Order::Drawn, Order::Falling] {
+        for answers in [[1, 2], [2, 1]] {
+            let [one, other] = answers;
+            let said = order.said();
+            let name = format!("star of eight, leaves {one} and {other} asked, do not fit, facts {said}");
+            let query = ask(&answers, star(&[P; 8]));
+            let case = full_sheet_in(order, &name, NO_RULES, &query, square(P, 100), SHORT);
+            lines.add(Group::Acyclic, case);
+        }
+    }
+}
+
+/// What hill climbing came to: both ends asked of a chain with a role to itself in the middle, in both directions, so that each of many
+/// members finds all pairs again.
+fn found(lines: &mut Lines) {
+    let mut facts = drawn(P, 9_800, (0, 178), (0, 178), &mut Draw::new());
+    facts.extend((0..178).map(|x| (true, P, x, x)));
+    let edges = [(3, 1), (0, 1), (4, 2), (3, 3), (3, 2), (1, 0), (6, 5)];
+    let atoms: Vec<Atom> = edges.iter().map(|&(from, to)| role(P, from, to)).collect();
+    let name = "chain with a role to itself both ways, both ends asked, drawn pairs of 178";
+    lines.acyclic(name, &[Rule::both_ways(P)], ask(&[0, 4], atoms), facts);
+}

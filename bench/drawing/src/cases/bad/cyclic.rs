@@ -1,0 +1,73 @@
+//! Bad sheets whose questions have rings or cliques.
+use super::{Lines, NO_RULES, P, Q};
+use crate::cases::relations::{ask, clique, dense, lower, names, ring, role, round, square, tournament};
+use crate::cases::sheets::{Fact, Query, Rule};
+use crate::cases::Draw;
+
+pub fn add(lines: &mut Lines) {
+    rings(lines);
+    cliques(lines);
+}
+
+/// Rings, and a ring that nothing closes.
+fn rings(lines: &mut Lines) {
+    let relations = [
+        ("100 x 100", square(P, 100)),
+        ("tournament", tournament(P, 141, &mut Draw::new())),
+        ("two parts", round(P, 2, 70)),
+    ];
+    for (said, facts) in relations {
+        let mut add = |shape: &str, rules: &[Rule], query: Query| {
+            lines.cyclic(&format!("{shape}, {said}"), rules, query, facts.clone());
+        };
+        add("ring of eight", NO_RULES, ask(&[], ring(&[P; 8])));
+        add("ring of eight, two asked", NO_RULES, ask(&[0, 4], ring(&[P; 8])));
+        add("ring of eight, four asked", NO_RULES, ask(&[0, 2, 4, 6], ring(&[P; 8])));
+        add("ring of seven, one asked", NO_RULES, ask(&[0], ring(&[P; 7])));
+        add(
+            "ring of seven both ways",
+            &[Rule::both_ways(P)],
+            ask(&[], ring(&[P; 7])),
+        );
+    }
+    let counts = [(20, 2), (21, 2), (22, 2), (23, 2), (24, 2), (25, 2), (26, 2), (27, 3)];
+    let mut draw = Draw::new();
+    let each = counts
+        .iter()
+        .flat_map(|&(name, count)| (0..count).map(move |k| lower(name, k)));
+    let facts: Vec<Fact> = each.flat_map(|name| tournament(name, 34, &mut draw)).collect();
+    let roles: Vec<u64> = (20..28).collect();
+    for answers in [&[][..], &[0, 4]] {
+        let name = format!("ring of eight with names, {} asked, tournaments", answers.len());
+        lines.cyclic(&name, &names(&counts), ask(answers, ring(&roles)), facts.clone());
+    }
+}
+
+/// Cliques of four, where there are some and where there are none.
+fn cliques(lines: &mut Lines) {
+    let three: Vec<Fact> = [(0, 1), (0, 2), (1, 2)]
+        .iter()
+        .flat_map(|&(a, b)| dense(P, (1000 * a, 57), (1000 * b, 57)))
+        .collect();
+    let relations = [
+        ("100 x 100", square(P, 100)),
+        ("tournament", tournament(P, 141, &mut Draw::new())),
+        ("three parts", three),
+        ("three parts in a round", round(P, 3, 57)),
+    ];
+    for (said, facts) in relations {
+        for answers in [&[][..], &[3]] {
+            let asked = answers.len();
+            let query = ask(answers, clique(P));
+            let name = format!("clique, {asked} asked, {said}");
+            lines.cyclic(&name, NO_RULES, query.clone(), facts.clone());
+            let name = format!("clique both ways, {asked} asked, {said}");
+            lines.cyclic(&name, &[Rule::both_ways(P)], query, facts.clone());
+        }
+    }
+    let mut query = ask(&[0], clique(P));
+    query.atoms.extend([role(P, 3, 4), role(Q, 4, 5)]);
+    let mut facts = square(P, 99);
+    facts.push((true, Q, 9_000, 9_001));
+    lines.cyclic("clique with a dead end", NO_RULES, query, facts);
+}
