@@ -11,7 +11,7 @@ pub struct Ran {
     pub seconds: f64,
 }
 
-/// Runs the command with what the file holds on its standard input; `None` if it was stopped after so many seconds, or fails.
+/// Runs the command with what the file holds on its standard input; `None` if there is none such, or it was stopped after so many seconds.
 pub fn run(command: &mut Command, input: Option<&Path>, folder: &Path, limit: f64) -> Option<Ran> {
     let printed = folder.join("printed");
     let stdin = match input {
@@ -26,7 +26,8 @@ pub fn run(command: &mut Command, input: Option<&Path>, folder: &Path, limit: f6
         if let Some(status) = child.try_wait().expect("a child can be waited for") {
             let seconds = clock::children() - before;
             let printed = std::fs::read_to_string(&printed).expect("it was written");
-            return status.success().then_some(Ran { printed, seconds });
+            assert!(status.success(), "{command:?} fails: {status}");
+            return Some(Ran { printed, seconds });
         }
         if begin.elapsed().as_secs_f64() > limit {
             child.kill().expect("a child can be stopped");

@@ -9,8 +9,8 @@ use trials::refusals::{listed, Sheets};
 
 /// The least counts without which a run fails: of cases of each size, of those that make a search of that size forget, and of those of
 /// exactly as many facts as a size begins or ends with; of rings of each length; of each number of answer terms; and of others.
-const LEAST_OF_SIZE: [u64; 3] = [600, 300, 100];
-const LEAST_FORGETTING: [u64; 3] = [60, 20, 6];
+const LEAST_OF_SIZE: [u64; 3] = [750, 375, 125];
+const LEAST_FORGETTING: [u64; 3] = [70, 20, 8];
 const LEAST_AT_EDGE: u64 = 6;
 const LEAST_RINGS: u64 = 35;
 const LEAST_TERMS: u64 = 100;
@@ -30,6 +30,8 @@ pub struct DenseCounts {
     bringing: u64,
     met_14: u64,
     pub not_given: u64,
+    /// Cases whose kinds take too much to find out.
+    pub not_judged: u64,
 }
 
 /// Lengths of lists: just enough, one byte and one tuple short, much too short, and long.
@@ -52,24 +54,23 @@ impl Tally {
     /// The dense case of this turn.
     pub fn compare_dense(&mut self, seed: u64, turn: u64) {
         let name = format!("dense case {turn}");
-        let Some((case, kinds)) = case(seed, turn).and_then(|case| Kinds::of(&case).map(|kinds| (case, kinds))) else {
+        let Some(case) = case(seed, turn) else {
             self.dense.not_given += 1;
             return;
         };
-        let chance = &mut Chance::new(turn);
-        if kinds.by_members != case.answers {
-            let told = |tuples| format!("{tuples:?}");
-            let (expected, got) = (told(&case.answers), told(&kinds.by_members));
-            self.differ(
-                &name,
-                &case.draft.sheets(chance),
-                "the two readers here",
-                &expected,
-                &got,
-            );
+        match Kinds::of(&case) {
+            None => self.dense.not_judged += 1,
+            Some(kinds) => {
+                self.dense.count(&kinds);
+                if kinds.by_members != case.answers {
+                    let told = |tuples| format!("{tuples:?}");
+                    let (expected, got) = (told(&case.answers), told(&kinds.by_members));
+                    let sheets = case.draft.sheets(&mut Chance::new(turn));
+                    self.differ(&name, &sheets, "the two readers here", &expected, &got);
+                }
+            }
         }
-        self.dense.count(&kinds);
-        self.compare_dense_by(library::answer, &name, &case, chance);
+        self.compare_dense_by(library::answer, &name, &case, &mut Chance::new(turn));
     }
 
     /// What is drawn for a case by the library or what stands for it, with lists of several lengths.
@@ -107,45 +108,43 @@ impl DenseCounts {
         }
     }
 
-    /// The counts with what they must be at least; of rings and of answer terms, the count of what was met least.
-    pub fn counts(&self) -> Vec<(String, u64, u64)> {
+    /// The counts by the number of facts, with what they must be at least.
+    fn counts_by_facts(&self) -> Vec<(String, u64, u64)> {
         let mut all = Vec::new();
-        let mut count = |what: String, got, least| all.push((what, got, least));
+        let mut count = |what: String, got, least| all.push((format!("dense cases of {what}"), got, least));
         for (i, size) in SIZES.iter().enumerate() {
             let facts = format!("{} to {} facts", size.facts.start(), size.facts.end());
-            count(format!("dense cases of {facts}"), self.sizes[i], LEAST_OF_SIZE[i]);
-            count(
-                format!(
-                    "dense cases of {facts} with more than {} keys at a depth in any order",
-                    size.entries
-                ),
-                self.forgetting[i],
-                LEAST_FORGETTING[i],
-            );
+            let forgetting = format!("{facts} with more than {} keys at a depth in any order", size.entries);
+            count(facts, self.sizes[i], LEAST_OF_SIZE[i]);
+            count(forgetting, self.forgetting[i], LEAST_FORGETTING[i]);
         }
         for (edge, got) in EDGES.iter().zip(self.edges) {
-            count(format!("dense cases of exactly {edge} facts"), got, LEAST_AT_EDGE);
+            count(format!("exactly {edge} facts"), got, LEAST_AT_EDGE);
         }
+        all
+    }
+
+    /// The counts with what they must be at least; of rings and of answer terms, the count of what was met least.
+    pub fn counts(&self) -> Vec<(String, u64, u64)> {
+        let mut all = self.counts_by_facts();
+        let mut count = |what: &str, got, least| all.push((what.to_string(), got, least));
         let least = |counts: &[u64]| counts.iter().copied().min().unwrap_or(0);
+        let (rings, terms) = (least(&self.rings), least(&self.terms));
         count(
-            "dense cases, rings of each length from 3 to 8".into(),
-            least(&self.rings),
+            "dense cases with a ring, of each length from 3 to 8",
+            rings,
             LEAST_RINGS,
         );
-        count(
-            "dense cases of each number of answer terms".into(),
-            least(&self.terms),
-            LEAST_TERMS,
-        );
+        count("dense cases of each number of answer terms", terms, LEAST_TERMS);
         for ((what, enough), got) in KINDS.iter().zip(self.has) {
-            count(format!("dense cases {what}"), got, *enough);
+            count(&format!("dense cases {what}"), got, *enough);
         }
         count(
-            "members that bring an answer of their own".into(),
+            "members of dense cases that bring an answer of their own",
             self.bringing,
             LEAST_BRINGING,
         );
-        count("dense cases that met 14".into(), self.met_14, LEAST_14);
+        count("dense cases that met 14", self.met_14, LEAST_14);
         all
     }
 }
@@ -169,25 +168,26 @@ mod tests {
     }
 
     /// Differences that are met in a case if a search with this fault stands for the library.
-    fn differences(case: &Case, fault: Option<Fault>) -> usize {
+    fn differences(case: &Case, turn: usize, fault: Option<Fault>) -> usize {
         let by_search = |_: &Sheets, list: &mut [u8]| {
             let (outcome, _) = drawn(&case.draft, list.len(), fault);
             list.copy_from_slice(&outcome.list);
             (outcome.number, outcome.count)
         };
         let mut tally = Tally::default();
-        tally.compare_dense_by(by_search, "a search", case, &mut Chance::new(1));
+        tally.compare_dense_by(by_search, "a search", case, &mut Chance::new(turn as u64));
         tally.differences
     }
 
     #[test]
     fn every_fault_of_a_search_that_remembers_is_found() {
         for (turn, case) in first_cases().iter().enumerate() {
-            assert_eq!(differences(case, None), 0, "turn {turn}");
+            assert_eq!(differences(case, turn, None), 0, "turn {turn}");
         }
         for fault in FAULTS {
-            let found = first_cases().iter().position(|case| differences(case, Some(fault)) > 0);
-            let turn = found.unwrap_or_else(|| panic!("{fault:?} is not found"));
+            let mut cases = first_cases().iter().enumerate();
+            let found = cases.find(|(turn, case)| differences(case, *turn, Some(fault)) > 0);
+            let (turn, _) = found.unwrap_or_else(|| panic!("{fault:?} is not found"));
             println!("{fault:?}: found in dense case {turn}");
         }
     }

@@ -25,7 +25,7 @@ const ONE_OF_MANY_IN: u64 = 100;
 /// One in so many has a near miss beside it, and a needed fact at some place.
 const ONE_NEAR_MISS_IN: u64 = 5;
 /// One in so many has a dense case beside it.
-const ONE_DENSE_IN: u64 = 15;
+const ONE_DENSE_IN: u64 = 12;
 /// Differences that are printed before the run is given up.
 const MOST_DIFFERENCES: usize = 10;
 

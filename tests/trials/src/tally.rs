@@ -209,7 +209,10 @@ impl Tally {
             "near misses and needed facts that chance did not give: {}",
             self.near.not_given
         );
-        println!("dense cases that chance did not give: {}", self.dense.not_given);
+        println!(
+            "dense cases that chance did not give: {}, whose kinds took too much to find out: {}",
+            self.dense.not_given, self.dense.not_judged
+        );
         let mut enough = true;
         let mut count = |what: &str, got: u64, least: u64| {
             println!("{what}: {got} (at least {least})");

@@ -46,8 +46,25 @@ pub fn drawn(role: u64, count: u64, (x, wide): (u64, u64), (y, high): (u64, u64)
     (0..count).map(&mut pair).collect()
 }
 
+/// So many of the facts, drawn.
+pub fn thinned(mut facts: Vec<Fact>, count: usize, draw: &mut Draw) -> Vec<Fact> {
+    draw.shuffle(&mut facts);
+    facts.truncate(count);
+    facts
+}
+
+/// Each of so many objects from `x` on to itself.
+pub fn loops(role: u64, (x, count): (u64, u64)) -> Vec<Fact> {
+    (x..x + count).map(|object| (true, role, object, object)).collect()
+}
+
 pub fn role(name: u64, from: usize, to: usize) -> Atom {
     Atom::Role(name, var(from), var(to))
+}
+
+/// Roles between variables.
+pub fn roles(edges: &[(u64, usize, usize)]) -> Vec<Atom> {
+    edges.iter().map(|&(name, from, to)| role(name, from, to)).collect()
 }
 
 pub fn ask(answers: &[usize], atoms: Vec<Atom>) -> Query {

@@ -46,9 +46,14 @@ impl Rule {
         Rule(2 << 28 | lower << 14 | upper)
     }
 
+    /// One role with its places exchanged is below the other.
+    pub fn exchanged(lower: u64, upper: u64) -> Rule {
+        Rule(2 << 28 | lower << 14 | 1 << 12 | upper)
+    }
+
     /// The role holds in both directions.
     pub fn both_ways(role: u64) -> Rule {
-        Rule(2 << 28 | role << 14 | 1 << 12 | role)
+        Rule::exchanged(role, role)
     }
 }
 

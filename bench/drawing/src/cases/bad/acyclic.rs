@@ -1,7 +1,7 @@
 //! Bad sheets whose questions have no ring.
 use super::{Group, Lines, NO_RULES, P, Q};
 use crate::cases::relations::{
-    apart, ask, chain, dense, drawn, names, role, square, star, tournament, tree, under_all,
+    apart, ask, chain, dense, drawn, loops, names, role, roles, square, star, thinned, tournament, tree, under_all,
 };
 use crate::cases::sheets::{var, Atom, Fact, Rule};
 use crate::cases::{full_sheet_in, Draw, Order, SHORT};
@@ -52,20 +52,24 @@ fn dead_in_the_middle(lines: &mut Lines) {
     }
 }
 
-/// Eight dense layers, the last apart from the others.
+/// The roles of eight layers, and how many names each has where there are 512 choices.
+const LAYERS: [u64; 8] = [20, 21, 22, 23, 24, 25, 26, 27];
+const NAMES: [(u64, u64); 8] = [(20, 2), (21, 2), (22, 2), (23, 2), (24, 2), (25, 2), (26, 2), (27, 4)];
+
+/// Seven dense layers of so many objects, and an eighth one whose facts are given.
+fn layers(side: u64, last: impl Fn(u64) -> (u64, u64)) -> Vec<Fact> {
+    let layer = |r: u64| (100 * (r - 20), side);
+    let mut facts: Vec<Fact> = (20..27).flat_map(|r| dense(r, layer(r), layer(r + 1))).collect();
+    facts.extend((0..side).map(last).map(|(x, y)| (true, 27, x, y)));
+    facts
+}
+
+/// The last layer apart from the others.
 fn dead_layers(lines: &mut Lines) {
-    let roles: Vec<u64> = (20..28).collect();
-    let layers = |side: u64| -> Vec<Fact> {
-        let layer = |r: u64| (100 * (r - 20), side);
-        let mut facts: Vec<Fact> = (20..27).flat_map(|r| dense(r, layer(r), layer(r + 1))).collect();
-        facts.extend((0..side).map(|x| (true, 27, 5_000 + x, x)));
-        facts
-    };
-    let query = ask(&[0], chain(&roles));
-    lines.acyclic("dense layers, dead end", NO_RULES, query.clone(), layers(37));
-    let counts: Vec<(u64, u64)> = roles.iter().map(|&r| (r, if r == 27 { 4 } else { 2 })).collect();
-    let facts = under_all(&layers(26), &counts);
-    lines.acyclic("the same with names", &names(&counts), query, facts);
+    let (query, apart) = (ask(&[0], chain(&LAYERS)), |x| (5_000 + x, x));
+    lines.acyclic("dense layers, dead end", NO_RULES, query.clone(), layers(37, apart));
+    let facts = under_all(&layers(26, apart), &NAMES);
+    lines.acyclic("dense layers with names, dead end", &names(&NAMES), query, facts);
 }
 
 /// Chains, stars and trees over dense relations and over a tournament.
@@ -119,10 +123,15 @@ fn one_answer(lines: &mut Lines) {
     let query = ask(&[8], chain(&roles));
     lines.acyclic("chain of eight, all answers equal", NO_RULES, query, facts.clone());
     let query = ask(&[8, 8, 8, 8], star(&roles));
-    lines.acyclic("star of eight, all answers equal", NO_RULES, query, facts.clone());
-    let query = ask(&[8], chain(&roles));
-    let rules = [Rule::some(5, P)];
-    lines.acyclic("chain of eight with a rule, all answers equal", &rules, query, facts);
+    lines.acyclic("star of eight, all answers equal", NO_RULES, query, facts);
+    let facts = under_all(&layers(26, |x| (700 + x, 5_000)), &NAMES);
+    let query = ask(&[8], chain(&LAYERS));
+    lines.acyclic(
+        "dense layers with names, all answers equal",
+        &names(&NAMES),
+        query,
+        facts,
+    );
 }
 
 /// Answers that do not fit: the facts in each order, the answer terms in both.
@@ -140,12 +149,27 @@ fn too_many(lines: &mut Lines) {
 }
 
 /// What hill climbing came to: both ends asked of a chain with a role to itself in the middle, in both directions, so that each of many
-/// members finds all pairs again.
+/// members finds all pairs again; and two questions apart, of which the later one has few matches and is gone through for each match of
+/// the first.
 fn found(lines: &mut Lines) {
     let mut facts = drawn(P, 9_800, (0, 178), (0, 178), &mut Draw::new());
-    facts.extend((0..178).map(|x| (true, P, x, x)));
+    facts.extend(loops(P, (0, 178)));
     let edges = [(3, 1), (0, 1), (4, 2), (3, 3), (3, 2), (1, 0), (6, 5)];
-    let atoms: Vec<Atom> = edges.iter().map(|&(from, to)| role(P, from, to)).collect();
-    let name = "chain with a role to itself both ways, both ends asked, drawn pairs of 178";
-    lines.acyclic(name, &[Rule::both_ways(P)], ask(&[0, 4], atoms), facts);
+    let query = ask(&[0, 4], roles(&edges.map(|(from, to)| (P, from, to))));
+    let name = "found: chain with a role to itself both ways, both ends asked, drawn pairs of 178";
+    lines.acyclic(name, &[Rule::both_ways(P)], query, facts);
+
+    let draw = &mut Draw::new();
+    let mut facts = dense(P, (50, 668), (100, 14));
+    facts.extend(loops(P, (50, 668)));
+    let mut facts = thinned(facts, 3_333, draw);
+    facts.extend(under_all(&thinned(square(Q, 100), 3_333, draw), &[(Q, 2)]));
+    let edges = [(Q, 2, 3), (P, 0, 1), (P, 4, 3), (Q, 7, 4), (Q, 5, 6), (Q, 2, 8)];
+    let query = ask(&[1, 1, 4, 3], roles(&edges));
+    lines.acyclic(
+        "found: two asked apart, the later with few matches",
+        &names(&[(Q, 2)]),
+        query,
+        facts,
+    );
 }

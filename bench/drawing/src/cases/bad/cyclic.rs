@@ -1,12 +1,13 @@
 //! Bad sheets whose questions have rings or cliques.
 use super::{Lines, NO_RULES, P, Q};
-use crate::cases::relations::{ask, clique, dense, lower, names, ring, role, round, square, tournament};
+use crate::cases::relations::{ask, clique, dense, loops, lower, names, ring, role, roles, round, square, tournament};
 use crate::cases::sheets::{Fact, Query, Rule};
 use crate::cases::Draw;
 
 pub fn add(lines: &mut Lines) {
     rings(lines);
     cliques(lines);
+    found(lines);
 }
 
 /// Rings, and a ring that nothing closes.
@@ -70,4 +71,23 @@ fn cliques(lines: &mut Lines) {
     let mut facts = square(P, 99);
     facts.push((true, Q, 9_000, 9_001));
     lines.cyclic("clique with a dead end", NO_RULES, query, facts);
+}
+
+/// What hill climbing came to: a ring of four, at two of its objects one that is asked, so that each pair of the two is come to for each
+/// pair of the ring; and two rings that only roles from an object to itself close.
+fn found(lines: &mut Lines) {
+    let ring_of_four = [(P, 0, 1), (P, 0, 4), (Q, 4, 7), (Q, 1, 7)];
+    let beside = [(P, 6, 1), (P, 5, 4), (Q, 1, 2), (P, 2, 3)];
+    let query = ask(&[6, 5], roles(&[ring_of_four, beside].concat()));
+    let mut facts = dense(P, (0, 140), (0, 35));
+    facts.extend(square(Q, 70));
+    let name = "found: ring of four with two asked beside it, 140 x 35 and 70 x 70";
+    lines.cyclic(name, &[Rule::exchanged(P, Q)], query, facts);
+
+    let edges = [(4, 0), (2, 1), (2, 3), (3, 4), (4, 1), (0, 1), (8, 0)];
+    let query = ask(&[1, 0, 2, 3], roles(&edges.map(|(from, to)| (P, from, to))));
+    let mut facts = round(P, 2, 70);
+    facts.extend(loops(P, (100, 74)));
+    let name = "found: rings of three and four that share a role, two parts and roles to themselves";
+    lines.cyclic(name, NO_RULES, query, facts);
 }
