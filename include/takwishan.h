@@ -5,7 +5,7 @@
  * A sheet is a pointer and a length in bytes. The pointer must not be null and must be good for reading so many bytes, also where the
  * length is 0; nothing may write them during the call. What is lent for writing, the list or the union's sheet, must be good for writing
  * and must not overlap a sheet that is read. Every sheet of every length and every content is answered: none of these functions fails,
- * allocates, or keeps a pointer. They need less than half a megabyte of stack and may be called from several threads at once.
+ * allocates, or keeps a pointer. They need less than one megabyte of stack and may be called from several threads at once.
  */
 #ifndef TAKWISHAN_H
 #define TAKWISHAN_H
@@ -18,7 +18,7 @@ extern "C" {
 #endif
 
 /* The version of header and library; CHANGELOG.md says what changed. */
-#define TAKWISHAN_VERSION "0.9.0"
+#define TAKWISHAN_VERSION "0.10.0"
 
 /* The longest sheets, in bytes; a longer one is refused. */
 enum {

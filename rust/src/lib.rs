@@ -2,7 +2,7 @@
 //! facts, and a member of a union shown.
 //!
 //! The work is done by a proved library (`make lib`); this crate only hands slices over. Every sheet of every length and
-//! content is answered: nothing panics or blocks, and only [`write()`] allocates. A call needs less than half a megabyte of stack.
+//! content is answered: nothing panics or blocks, and only [`write()`] allocates. A call needs less than one megabyte of stack.
 //!
 //! Card K1 of document 01: each concept 1 is driven by something; who is driven?
 //!

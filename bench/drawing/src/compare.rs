@@ -49,7 +49,9 @@ pub fn compare(case: &Case, desk: &Desk) -> Drawn {
 /// two end.
 pub fn compare_in_time(case: &Case, limit: f64) -> (Drawn, Vec<u8>, [bool; 2]) {
     accepted(case);
-    let plain = probe::outcome(plain::answer, case);
+    let mut list = vec![2; case.list];
+    let drawn = plain::answer(case, &mut list);
+    let plain = probe::Outcome::of(drawn, &list);
     let ends = ["library", "before"].map(|which| {
         let other = probe::ends(which, case, limit);
         assert!(
@@ -59,7 +61,5 @@ pub fn compare_in_time(case: &Case, limit: f64) -> (Drawn, Vec<u8>, [bool; 2]) {
         );
         other.is_some()
     });
-    let mut list = vec![2; case.list];
-    let drawn = plain::answer(case, &mut list);
     (drawn, list, ends)
 }

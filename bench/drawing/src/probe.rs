@@ -12,13 +12,13 @@ pub struct Outcome {
     pub list: u64,
 }
 
-pub fn outcome(answer: fn(&Case, &mut [u8]) -> Drawn, case: &Case) -> Outcome {
-    let mut list = vec![1; case.list];
-    let drawn = answer(case, &mut list);
-    let mix = |n: u64, &byte: &u8| (n ^ byte as u64).wrapping_mul(0x100_0000_01b3);
-    Outcome {
-        drawn,
-        list: list.iter().fold(0xcbf2_9ce4_8422_2325, mix),
+impl Outcome {
+    pub fn of(drawn: Drawn, list: &[u8]) -> Outcome {
+        let mix = |n: u64, &byte: &u8| (n ^ byte as u64).wrapping_mul(0x100_0000_01b3);
+        Outcome {
+            drawn,
+            list: list.iter().fold(0xcbf2_9ce4_8422_2325, mix),
+        }
     }
 }
 
@@ -48,7 +48,9 @@ pub fn answer_once(which: &str, folder: &str, list: &str) {
         entries,
     };
     let library = library(which).expect("it was linked");
-    let Outcome { drawn, list } = outcome(library.answer, &case);
+    let mut bytes = vec![1; case.list];
+    let drawn = (library.answer)(&case, &mut bytes);
+    let Outcome { drawn, list } = Outcome::of(drawn, &bytes);
     println!("{} {} {list}", drawn.number, drawn.count);
 }
 

@@ -27,8 +27,8 @@ use Rattle.sheets.specs.Laws.ObjectRange.{facts-in-range}
 use Rattle.sheets.specs.Laws.UnionRefusals.{sound-members}
 use Rattle.read_facts.specs.FactSheets.{FactsRead}
 use Rattle.check_sheet.specs.Members.{Members, unionNumber, MembersRead}
-use Rattle.answer_search.specs.Search.{TuplesInRange}
-use Rattle.answer_search.specs.Laws.InRange.{tuples-in-range}
+use Rattle.answer_settled.specs.Search.{TuplesInRange}
+use Rattle.answer_settled.specs.Laws.InRange.{tuples-in-range}
 use Rattle.answer_evaluate.specs.Merges.{SafeMembers, MergesMade}
 use Rattle.answer_evaluate.specs.MergeLaws.{merges-made}
 use Rattle.answer_draw.specs.declared.Answers.{Answers}

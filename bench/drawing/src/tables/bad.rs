@@ -14,8 +14,8 @@ const SPAN: Span = Span {
 };
 
 /// So many seconds for sqlite3.
-const SQLITE_LIMIT: f64 = 10.0;
-const SQLITE_TOO_LONG: &str = "> 10000";
+const SQLITE_LIMIT: f64 = 3.0;
+const SQLITE_TOO_LONG: &str = "> 3000";
 
 const COLUMNS: [&str; 10] = [
     "sheet",
@@ -57,7 +57,7 @@ fn line(case: &Case, desk: &Desk) -> (f64, String) {
         &drawing.map_or("-".to_string(), |drawing| ratio(drawing, plain)),
         &ms_or(sqlite, SQLITE_TOO_LONG),
     ]);
-    (plain, cells)
+    (library.map_or(f64::INFINITY, |times| times.0), cells)
 }
 
 fn table(group: Group, said: &str, part: Option<&str>, desk: &Desk) {

@@ -89,7 +89,7 @@ fn line(case: &Case, desk: &Desk) -> (String, Option<String>) {
     let process = as_sqlite(case, drawn, &list, desk, LIMIT);
     let process = process.and_then(|_| best(|| Some(desk.answers(case, LIMIT)?.2)));
     let program = program(case, drawn, desk);
-    let timer = sqlite(case, desk, LIMIT);
+    let timer = process.and_then(|_| sqlite(case, desk, LIMIT));
     let (library, earlier, plain) = calls(case, ends);
     let (answer, check) = (library.map(|times| times[0]), library.map(|times| times[1]));
     let drawing = library.map(|[answer, check]| drawing(answer, check));
