@@ -156,7 +156,7 @@ fn found(lines: &mut Lines) {
     facts.extend(loops(P, (0, 178)));
     let edges = [(3, 1), (0, 1), (4, 2), (3, 3), (3, 2), (1, 0), (6, 5)];
     let query = ask(&[0, 4], roles(&edges.map(|(from, to)| (P, from, to))));
-    let name = "found: chain with a role to itself both ways, both ends asked, drawn pairs of 178";
+    let name = "found: chain with a role to itself both ways, ends asked, pairs of 178";
     lines.acyclic(name, &[Rule::both_ways(P)], query, facts);
 
     let draw = &mut Draw::new();

@@ -88,6 +88,6 @@ fn found(lines: &mut Lines) {
     let query = ask(&[1, 0, 2, 3], roles(&edges.map(|(from, to)| (P, from, to))));
     let mut facts = round(P, 2, 70);
     facts.extend(loops(P, (100, 74)));
-    let name = "found: rings of three and four that share a role, two parts and roles to themselves";
+    let name = "found: rings of three and four that share a role, two parts, loops";
     lines.cyclic(name, NO_RULES, query, facts);
 }
