@@ -5,6 +5,7 @@ use crate::cases::sheets::Atom;
 
 const P: u64 = 20;
 const Q: u64 = 21;
+const R: u64 = 22;
 
 fn sheet(answers: &[usize], atoms: Vec<Atom>, laws: &[Law], relations: &[Relation]) -> Sheet {
     Sheet {
@@ -45,9 +46,7 @@ fn without_rings() -> Vec<Sheet> {
         relation(22, Shape::Drawn(3_333), (0, 100), (0, 100)),
     ];
     let apart = [(Q, 2, 3), (P, 0, 1), (P, 4, 3), (Q, 7, 4), (Q, 5, 6), (Q, 2, 8)];
-    let branch = [(P, 3, 7), (P, 1, 3), (P, 1, 4), (P, 4, 8), (P, 0, 1), (P, 0, 2)];
     vec![
-        sheet(&[7, 8], roles(&branch), &both_ways, &[square(P, 100)]),
         sheet(&[7, 8], tree(P), &[], &[square(P, 100)]),
         sheet(&[1, 2, 3, 4], tree(P), &[], &[square(P, 100)]),
         sheet(&[1, 2], star(&[P; 8]), &both_ways, &[square(P, 100)]),
@@ -97,10 +96,42 @@ fn with_rings() -> Vec<Sheet> {
     ]
 }
 
+/// What was found with looking ahead.
+fn found_without_rings() -> Vec<Sheet> {
+    let branch = [(3, 7), (1, 3), (1, 4), (4, 8), (0, 1), (0, 0)].map(|(from, to)| (P, from, to));
+    let three = [(5, 1), (2, 6), (1, 4), (2, 0), (5, 2), (1, 3), (4, 8), (3, 7)].map(|(from, to)| (P, from, to));
+    let parts = relation(P, Shape::Onward(2), (0, 64), (0, 1));
+    let wide = relation(P, Shape::Dense, (0, 74), (0, 77));
+    vec![
+        sheet(&[7, 8], roles(&branch), &[Law::Exchanged(P, P)], &[square(P, 100)]),
+        sheet(&[7, 8, 2], roles(&three), &[], &[wide, parts]),
+    ]
+}
+
+fn found_with_rings() -> Vec<Sheet> {
+    let of = |name: u64, shape: Shape, size: u64| relation(name, shape, (0, size), (0, 1));
+    let layers = [
+        of(P, Shape::Steps(3), 30),
+        relation(P, Shape::Dense, (3000, 47), (1000, 47)),
+        of(Q, Shape::Steps(3), 32),
+        of(R, Shape::Onward(4), 17),
+        of(R, Shape::Round(3), 27),
+    ];
+    let one = [(P, 7, 1), (R, 1, 5), (Q, 0, 4), (P, 0, 2)];
+    let other = [(R, 2, 1), (Q, 0, 2), (Q, 7, 5), (Q, 7, 4)];
+    let names = [Law::Role(P, Q), Law::Exchanged(R, R)];
+    let edges = [(0, 1), (2, 5), (2, 1), (5, 3), (1, 3), (0, 2), (0, 3), (2, 0)].map(|(from, to)| (P, from, to));
+    let (both_ways, three) = ([Law::Exchanged(P, P)], [of(P, Shape::Onward(3), 57)]);
+    vec![
+        sheet(&[5, 4, 5, 0], roles(&[one, other].concat()), &names, &layers),
+        sheet(&[3, 2], roles(&edges), &both_ways, &three),
+    ]
+}
+
 pub fn of(rings: bool) -> Vec<Sheet> {
     if rings {
-        with_rings()
+        [with_rings(), found_with_rings()].concat()
     } else {
-        without_rings()
+        [without_rings(), found_without_rings()].concat()
     }
 }
