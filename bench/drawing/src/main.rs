@@ -5,6 +5,7 @@
 //! processor's, so that other work on the machine disturbs it less. Nothing about time is asserted.
 mod before;
 mod cases;
+mod climb;
 mod clock;
 mod compare;
 mod desk;
@@ -44,6 +45,10 @@ fn main() {
         }
         ["once", which, folder, list] => probe::answer_once(which, folder, list),
         ["growth"] => tables::growth::print(),
+        ["climb", seconds, seed, ref kind @ ..] => {
+            let number = |text: &str| text.parse().expect("a number");
+            climb::run(number(seconds), number(seed), kind.first().copied());
+        }
         [table, ref rest @ ..] => {
             let print = match table {
                 "all" => tables::all::print,

@@ -40,6 +40,15 @@ impl Draw {
         Draw(0x9e37_79b9_7f4a_7c15)
     }
 
+    /// Others for each seed.
+    pub fn seeded(seed: u64) -> Draw {
+        let mut draw = Draw((0x9e37_79b9_7f4a_7c15 ^ seed.wrapping_mul(0xbf58_476d_1ce4_e5b9)).max(1));
+        for _ in 0..8 {
+            draw.below(2);
+        }
+        draw
+    }
+
     pub fn below(&mut self, bound: u64) -> u64 {
         self.0 ^= self.0 << 13;
         self.0 ^= self.0 >> 7;

@@ -28,6 +28,20 @@ pub fn round(role: u64, parts: u64, size: u64) -> Vec<Fact> {
         .collect()
 }
 
+/// So many parts one after the other, each object of a part to each of the next.
+pub fn steps(role: u64, parts: u64, size: u64) -> Vec<Fact> {
+    let at = |part: u64| (1000 * part, size);
+    let pairs = (1..parts).map(|part| dense(role, at(part - 1), at(part)));
+    pairs.flatten().collect()
+}
+
+/// The same, to each of all later ones.
+pub fn onward(role: u64, parts: u64, size: u64) -> Vec<Fact> {
+    let at = |part: u64| (1000 * part, size);
+    let pairs = (0..parts).flat_map(|to| (0..to).map(move |from| (from, to)));
+    pairs.flat_map(|(from, to)| dense(role, at(from), at(to))).collect()
+}
+
 /// One fact for each object of a layer to one of the next, drawn; the layers' names are given.
 pub fn layers(names: &[u64], width: u64, draw: &mut Draw) -> Vec<Fact> {
     let mut facts = Vec::new();
@@ -56,6 +70,11 @@ pub fn thinned(mut facts: Vec<Fact>, count: usize, draw: &mut Draw) -> Vec<Fact>
 /// Each of so many objects from `x` on to itself.
 pub fn loops(role: u64, (x, count): (u64, u64)) -> Vec<Fact> {
     (x..x + count).map(|object| (true, role, object, object)).collect()
+}
+
+/// So many objects from `x` on have the concept.
+pub fn having(concept: u64, (x, count): (u64, u64)) -> Vec<Fact> {
+    (x..x + count).map(|object| (false, concept, object, 0)).collect()
 }
 
 pub fn role(name: u64, from: usize, to: usize) -> Atom {

@@ -1,7 +1,8 @@
 //! Bad sheets whose questions have no ring.
 use super::{Group, Lines, NO_RULES, P, Q};
 use crate::cases::relations::{
-    apart, ask, chain, dense, drawn, loops, names, role, roles, square, star, thinned, tournament, tree, under_all,
+    apart, ask, chain, dense, drawn, having, loops, names, onward, role, roles, square, star, thinned, tournament,
+    tree, under_all,
 };
 use crate::cases::sheets::{var, Atom, Fact, Rule};
 use crate::cases::{full_sheet_in, Draw, Order, SHORT};
@@ -15,6 +16,7 @@ pub fn add(lines: &mut Lines) {
     one_answer(lines);
     too_many(lines);
     found(lines);
+    found_ahead(lines);
 }
 
 /// Products of atoms that share no variable, with a dead end at the end.
@@ -172,4 +174,20 @@ fn found(lines: &mut Lines) {
         query,
         facts,
     );
+}
+
+/// The same with looking ahead: a chain of four both ways, its ends asked, and a branch of two at its middle, so that the middle is told
+/// apart for each pair of ends where the branch comes last; and three asked of a tree, whose tuples are come to often and are found in the
+/// list only, since the table forgets them.
+fn found_ahead(lines: &mut Lines) {
+    let mut query = ask(&[7, 8], roles(&[(P, 3, 7), (P, 1, 3), (P, 1, 4), (P, 4, 8), (P, 0, 1)]));
+    query.atoms.push(Atom::Concept(5, var(0)));
+    let facts = [square(P, 99), having(5, (0, 99))].concat();
+    let name = "found: chain of four both ways, ends asked, a branch of two at its middle";
+    lines.acyclic(name, &[Rule::both_ways(P)], query, facts);
+
+    let edges = [(5, 1), (2, 6), (1, 4), (2, 0), (5, 2), (1, 3), (4, 8), (3, 7)];
+    let query = ask(&[7, 8, 2], roles(&edges.map(|(from, to)| (P, from, to))));
+    let facts = [dense(P, (0, 74), (0, 77)), onward(P, 2, 64)].concat();
+    lines.acyclic("found: tree of eight, three asked, do not fit", NO_RULES, query, facts);
 }

@@ -1,6 +1,8 @@
 //! Bad sheets whose questions have rings or cliques.
-use super::{Lines, NO_RULES, P, Q};
-use crate::cases::relations::{ask, clique, dense, loops, lower, names, ring, role, roles, round, square, tournament};
+use super::{Lines, NO_RULES, P, Q, R};
+use crate::cases::relations::{
+    ask, clique, dense, loops, lower, names, onward, ring, role, roles, round, square, steps, tournament,
+};
 use crate::cases::sheets::{Fact, Query, Rule};
 use crate::cases::Draw;
 
@@ -8,6 +10,7 @@ pub fn add(lines: &mut Lines) {
     rings(lines);
     cliques(lines);
     found(lines);
+    found_ahead(lines);
 }
 
 /// Rings, and a ring that nothing closes.
@@ -46,14 +49,10 @@ fn rings(lines: &mut Lines) {
 
 /// Cliques of four, where there are some and where there are none.
 fn cliques(lines: &mut Lines) {
-    let three: Vec<Fact> = [(0, 1), (0, 2), (1, 2)]
-        .iter()
-        .flat_map(|&(a, b)| dense(P, (1000 * a, 57), (1000 * b, 57)))
-        .collect();
     let relations = [
         ("100 x 100", square(P, 100)),
         ("tournament", tournament(P, 141, &mut Draw::new())),
-        ("three parts", three),
+        ("three parts", onward(P, 3, 57)),
         ("three parts in a round", round(P, 3, 57)),
     ];
     for (said, facts) in relations {
@@ -90,4 +89,21 @@ fn found(lines: &mut Lines) {
     facts.extend(loops(P, (100, 74)));
     let name = "found: rings of three and four that share a role, two parts, loops";
     lines.cyclic(name, NO_RULES, query, facts);
+}
+
+/// The same with looking ahead: a ring of three and one of five that share a role, over layers, with names and directions; and a clique of
+/// four with a chain of two in place of a role, both ways, the chain's ends asked.
+fn found_ahead(lines: &mut Lines) {
+    let one = [(P, 7, 1), (R, 1, 5), (Q, 0, 4), (P, 0, 2)];
+    let other = [(R, 2, 1), (Q, 0, 2), (Q, 7, 5), (Q, 7, 4)];
+    let query = ask(&[5, 4, 5, 0], roles(&[one, other].concat()));
+    let mut facts = [steps(P, 3, 30), dense(P, (3000, 47), (1000, 47)), steps(Q, 3, 32)].concat();
+    facts.extend([onward(R, 4, 17), round(R, 3, 27)].concat());
+    let name = "found: rings of three and five that share a role, layers";
+    lines.cyclic(name, &[Rule::role(P, Q), Rule::both_ways(R)], query, facts);
+
+    let edges = [(0, 1), (2, 5), (2, 1), (5, 3), (1, 3), (0, 2), (0, 3), (2, 0)];
+    let query = ask(&[3, 2], roles(&edges.map(|(from, to)| (P, from, to))));
+    let name = "found: clique both ways with a chain of two in it, three parts";
+    lines.cyclic(name, &[Rule::both_ways(P)], query, onward(P, 3, 57));
 }

@@ -9,6 +9,7 @@ use super::{full_sheet, Case, MIDDLE};
 /// A role of all relations here, and others.
 const P: u64 = 20;
 const Q: u64 = 21;
+const R: u64 = 22;
 
 const NO_RULES: &[Rule] = &[];
 
