@@ -5,6 +5,7 @@
 //! processor's, so that other work on the machine disturbs it less. Nothing about time is asserted.
 mod before;
 mod cases;
+#[cfg(feature = "climb")]
 mod climb;
 mod clock;
 mod compare;
@@ -45,6 +46,7 @@ fn main() {
         }
         ["once", which, folder, list] => probe::answer_once(which, folder, list),
         ["growth"] => tables::growth::print(),
+        #[cfg(feature = "climb")]
         ["climb", seconds, seed, ref kind @ ..] => {
             let number = |text: &str| text.parse().expect("a number");
             climb::run(number(seconds), number(seed), kind.first().copied());

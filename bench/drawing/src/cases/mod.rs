@@ -41,6 +41,7 @@ impl Draw {
     }
 
     /// Others for each seed.
+    #[cfg(feature = "climb")]
     pub fn seeded(seed: u64) -> Draw {
         let mut draw = Draw((0x9e37_79b9_7f4a_7c15 ^ seed.wrapping_mul(0xbf58_476d_1ce4_e5b9)).max(1));
         for _ in 0..8 {

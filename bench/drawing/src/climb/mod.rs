@@ -1,4 +1,5 @@
-//! A search for bad sheets: hill climbing over questions, rules and relations. A sheet is the worse the more facts the plain program tries.
+//! A search for bad sheets: hill climbing over questions, rules and relations. A sheet is the worse the more the plain program
+//! has to do for it.
 mod change;
 mod sheet;
 mod starts;
@@ -10,12 +11,12 @@ use sheet::Sheet;
 use std::hint::black_box;
 use std::time::{Duration, Instant};
 
-/// How far a climb goes: the most facts of its sheets, and whether they are filled up; the most that are tried on one, then it is bad
+/// How far a climb goes: the most facts of its sheets, and whether they are filled up; the most that is to be done for one, then it is bad
 /// enough; how many changes one after the other may bring nothing worse; how long it may take.
 struct Reach {
     facts: usize,
     full: bool,
-    tried: u64,
+    work: u64,
     patience: usize,
     seconds: u64,
 }
@@ -25,47 +26,47 @@ struct Reach {
 const SMALL: Reach = Reach {
     facts: 900,
     full: false,
-    tried: 8_000_000,
+    work: 80_000_000,
     patience: 200,
     seconds: 15,
 };
 const FULL: Reach = Reach {
     facts: MOST_FACTS,
     full: true,
-    tried: 2_500_000_000,
+    work: 30_000_000_000,
     patience: 25,
     seconds: 30,
 };
 
-/// A sheet is searched no further when so many times as many facts were tried as on the one before it, and these were not few.
+/// A sheet is searched no further when so many times as much was done as for the one before it, and that was not little.
 const TIMES: u64 = 4;
-const FEW: u64 = 100_000;
+const LITTLE: u64 = 1_000_000;
 
-/// Where a full sheet has 100 objects a small one has 30: what a member tries grows by this power.
+/// Where a full sheet has 100 objects a small one has 30: what a member takes grows by this power.
 const GROWTH: f64 = 1.354;
 
 /// So many sheets of a kind are printed.
 const PRINTED: usize = 4;
 
-/// A sheet, how many facts were tried, and how many would be on a full one.
+/// A sheet, what is to be done for it, and what would be for a full one.
 struct Step {
     sheet: Sheet,
-    tried: u64,
+    work: u64,
     badness: f64,
 }
 
 impl Step {
-    /// Facts are counted up to a number. `None` if it is no sheet, or its question is not of the kind.
+    /// Work is counted up to a number. `None` if it is no sheet, or its question is not of the kind.
     fn of(sheet: Sheet, rings: bool, reach: &Reach, most: u64) -> Option<Step> {
         if sheet.has_ring() != rings {
             return None;
         }
-        let tried = plain::tried(&sheet.case(reach.full)?, most);
+        let work = plain::work(&sheet.case(reach.full)?, most);
         let power = if reach.full { 1.0 } else { GROWTH };
         Some(Step {
             sheet,
-            badness: tried.iter().map(|&tried| (tried as f64).powf(power)).sum(),
-            tried: tried.iter().sum(),
+            badness: work.iter().map(|&work| (work as f64).powf(power)).sum(),
+            work: work.iter().sum(),
         })
     }
 }
@@ -79,7 +80,7 @@ fn start(rings: bool, draw: &mut Draw) -> Step {
             _ => by_chance(draw),
         };
         sheet.fit(SMALL.facts);
-        if let Some(step) = Step::of(sheet, rings, &SMALL, SMALL.tried) {
+        if let Some(step) = Step::of(sheet, rings, &SMALL, SMALL.work) {
             return step;
         }
     }
@@ -89,9 +90,9 @@ fn start(rings: bool, draw: &mut Draw) -> Step {
 fn climb(mut step: Step, rings: bool, reach: &Reach, end: Instant, draw: &mut Draw) -> Step {
     let end = end.min(Instant::now() + Duration::from_secs(reach.seconds));
     let mut failed = 0;
-    while failed < reach.patience && step.tried < reach.tried && Instant::now() < end {
+    while failed < reach.patience && step.work < reach.work && Instant::now() < end {
         let sheet = changed(&step.sheet, reach.facts, draw);
-        let most = (TIMES * step.tried.max(FEW)).min(reach.tried);
+        let most = (TIMES * step.work.max(LITTLE)).min(reach.work);
         failed += 1;
         match Step::of(sheet, rings, reach, most) {
             Some(other) if other.badness >= step.badness => {
@@ -109,13 +110,13 @@ fn climb(mut step: Step, rings: bool, reach: &Reach, end: Instant, draw: &mut Dr
 /// One climb: a small sheet, then the same in full size.
 fn whole_climb(rings: bool, end: Instant, draw: &mut Draw) -> Option<Step> {
     let small = climb(start(rings, draw), rings, &SMALL, end, draw);
-    let full = Step::of(small.sheet.enlarged(), rings, &FULL, FULL.tried)?;
+    let full = Step::of(small.sheet.enlarged(), rings, &FULL, FULL.work)?;
     Some(climb(full, rings, &FULL, end, draw))
 }
 
 /// The seconds that the plain program takes, if the search was gone through to its end.
 fn seconds(step: &Step) -> Option<f64> {
-    if step.tried >= FULL.tried {
+    if step.work >= FULL.work {
         return None;
     }
     let case = step.sheet.case(true)?;
@@ -129,8 +130,10 @@ fn seconds(step: &Step) -> Option<f64> {
 fn print(rings: bool, worst: &[Step]) {
     println!("// {}", if rings { "With rings" } else { "Without rings" });
     for step in worst {
-        let said = seconds(step).map_or("and more".to_string(), |seconds| format!("{seconds:.3} seconds"));
-        println!("// {} facts tried, {said}\n{}\n", step.tried, step.sheet.code());
+        let said = seconds(step).map_or("too many seconds".to_string(), |seconds| {
+            format!("{seconds:.3} seconds")
+        });
+        println!("// {said}\n{}\n", step.sheet.code());
     }
 }
 
@@ -150,10 +153,10 @@ pub fn run(seconds: u64, seed: u64, kind: Option<&str>) {
         let Some(step) = whole_climb(rings, end, &mut draw) else {
             continue;
         };
-        eprintln!("// {} facts tried\n{}\n", step.tried, step.sheet.code());
+        eprintln!("// {:.3}\n{}\n", step.work as f64 * 1e-9, step.sheet.code());
         let of_kind: &mut Vec<Step> = &mut worst[rings as usize];
         of_kind.push(step);
-        of_kind.sort_by_key(|step| std::cmp::Reverse(step.tried));
+        of_kind.sort_by_key(|step| std::cmp::Reverse(step.work));
         of_kind.truncate(PRINTED);
     }
     for &rings in kinds {

@@ -120,11 +120,10 @@ fn found_with_rings() -> Vec<Sheet> {
     let one = [(P, 7, 1), (R, 1, 5), (Q, 0, 4), (P, 0, 2)];
     let other = [(R, 2, 1), (Q, 0, 2), (Q, 7, 5), (Q, 7, 4)];
     let names = [Law::Role(P, Q), Law::Exchanged(R, R)];
-    let edges = [(0, 1), (2, 5), (2, 1), (5, 3), (1, 3), (0, 2), (0, 3), (2, 0)].map(|(from, to)| (P, from, to));
-    let (both_ways, three) = ([Law::Exchanged(P, P)], [of(P, Shape::Onward(3), 57)]);
+    let row = [(4, 0), (1, 0), (4, 3), (4, 1), (1, 2), (2, 1), (2, 3), (2, 4)].map(|(from, to)| (P, from, to));
     vec![
         sheet(&[5, 4, 5, 0], roles(&[one, other].concat()), &names, &layers),
-        sheet(&[3, 2], roles(&edges), &both_ways, &three),
+        sheet(&[1, 0, 2, 3], roles(&row), &[], &[of(P, Shape::Round(2), 70)]),
     ]
 }
 

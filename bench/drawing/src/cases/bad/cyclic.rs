@@ -91,8 +91,8 @@ fn found(lines: &mut Lines) {
     lines.cyclic(name, NO_RULES, query, facts);
 }
 
-/// The same with looking ahead: a ring of three and one of five that share a role, over layers, with names and directions; and a clique of
-/// four with a chain of two in place of a role, both ways, the chain's ends asked.
+/// The same with looking ahead: a ring of three and one of five that share a role, over layers, with names and directions; and three rings
+/// of three in a row, four of their objects asked, which two parts do not close.
 fn found_ahead(lines: &mut Lines) {
     let one = [(P, 7, 1), (R, 1, 5), (Q, 0, 4), (P, 0, 2)];
     let other = [(R, 2, 1), (Q, 0, 2), (Q, 7, 5), (Q, 7, 4)];
@@ -102,8 +102,8 @@ fn found_ahead(lines: &mut Lines) {
     let name = "found: rings of three and five that share a role, layers";
     lines.cyclic(name, &[Rule::role(P, Q), Rule::both_ways(R)], query, facts);
 
-    let edges = [(0, 1), (2, 5), (2, 1), (5, 3), (1, 3), (0, 2), (0, 3), (2, 0)];
-    let query = ask(&[3, 2], roles(&edges.map(|(from, to)| (P, from, to))));
-    let name = "found: clique both ways with a chain of two in it, three parts";
-    lines.cyclic(name, &[Rule::both_ways(P)], query, onward(P, 3, 57));
+    let edges = [(4, 0), (1, 0), (4, 3), (4, 1), (1, 2), (2, 1), (2, 3), (2, 4)];
+    let query = ask(&[1, 0, 2, 3], roles(&edges.map(|(from, to)| (P, from, to))));
+    let name = "found: three rings of three in a row, four asked, two parts";
+    lines.cyclic(name, NO_RULES, query, round(P, 2, 70));
 }
