@@ -2,18 +2,18 @@
 use mathlib.Core.Path.{_≡_, refl, sym, ap, ap₂, _∙_, subst}
 use Prim.Native.Nat.{ℕ, _%_, _≤_, _<_}
 use native.Mathlib.Omega.{arith}
-use mathlib.Core.Bool.{Bool, true, false, _||_}
+use mathlib.Core.Bool.{Bool, false, _||_}
 use mathlib.Core.List.{List, [], _∷_}
 use lib.ListN.{length, getD}
 use lib.Dec.{T}
 use borrow.Author.Needs.{needs}
 use Rattle.theory.specs.Lists.{any, numbers}
-use Rattle.theory.specs.Syntax.{Rule, Query, UCQ}
+use Rattle.theory.specs.Syntax.{Query, UCQ}
 use Rattle.theory.specs.Rewriting.{ruleStep, steps}
 use Rattle.theory.specs.Union.{refuses11}
 use Rattle.theory.specs.Laws.Lists.{any-iff, numbers-iff}
 use Rattle.theory.specs.Laws.Options.{same-test}
-use Rattle.words.specs.Records.{ruleIn, rightName}
+use Rattle.words.specs.Records.{rightName}
 use Rattle.words.specs.Words.{queryOf, Small, rulesIn, wordName}
 use Rattle.words.specs.declared.QueryWords.{QueryWords}
 use Rattle.words.specs.Laws.Rows.{rows, rules-length, rule-there}

@@ -1,4 +1,3 @@
-use Prim.Native.Nat.{ℕ}
 use Rattle.check_rules.proofs.WordLaws.{laws}
 use Rattle.check_rules.proofs.found.Statement.{statement}
 use Rattle.check_rules.proofs.found.Tie as tie
