@@ -17,6 +17,7 @@ pub fn add(lines: &mut Lines) {
     too_many(lines);
     found(lines);
     found_ahead(lines);
+    found_last(lines);
 }
 
 /// Products of atoms that share no variable, with a dead end at the end.
@@ -190,4 +191,19 @@ fn found_ahead(lines: &mut Lines) {
     let query = ask(&[7, 8, 2], roles(&edges.map(|(from, to)| (P, from, to))));
     let facts = [dense(P, (0, 74), (0, 77)), onward(P, 2, 64)].concat();
     lines.acyclic("found: tree of eight, three asked, do not fit", NO_RULES, query, facts);
+}
+
+/// With the order of atoms as it is now: the ends of three branches of a tree, so that three variables tell apart what is below, more than
+/// the memo has entries for; and a chain of four both ways, its ends asked, with a role to itself beside its middle.
+fn found_last(lines: &mut Lines) {
+    let edges = [(2, 0), (1, 3), (2, 6), (1, 4), (3, 7), (4, 8), (1, 5), (5, 2)];
+    let query = ask(&[7, 8, 2], roles(&edges.map(|(from, to)| (P, from, to))));
+    let facts = [square(P, 70), onward(P, 2, 70)].concat();
+    let name = "found: tree of eight, three branches, ends asked, do not fit";
+    lines.acyclic(name, NO_RULES, query, facts);
+
+    let edges = [(7, 3), (0, 0), (4, 8), (1, 3), (1, 4), (1, 0)];
+    let query = ask(&[7, 8], roles(&edges.map(|(from, to)| (P, from, to))));
+    let name = "found: chain of four both ways, ends asked, beside its middle a role to itself";
+    lines.acyclic(name, &[Rule::both_ways(P)], query, dense(P, (0, 98), (0, 100)));
 }

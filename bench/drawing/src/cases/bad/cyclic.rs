@@ -11,6 +11,7 @@ pub fn add(lines: &mut Lines) {
     cliques(lines);
     found(lines);
     found_ahead(lines);
+    found_last(lines);
 }
 
 /// Rings, and a ring that nothing closes.
@@ -106,4 +107,13 @@ fn found_ahead(lines: &mut Lines) {
     let query = ask(&[1, 0, 2, 3], roles(&edges.map(|(from, to)| (P, from, to))));
     let name = "found: three rings of three in a row, four asked, two parts";
     lines.cyclic(name, NO_RULES, query, round(P, 2, 70));
+}
+
+/// With the order of atoms as it is now: three rings of three at one object, which two parts do not close, nor a third one behind them.
+fn found_last(lines: &mut Lines) {
+    let edges = [(0, 4), (4, 2), (1, 4), (1, 6), (0, 3), (3, 4), (2, 0), (2, 1)];
+    let query = ask(&[1, 0, 2, 3], roles(&edges.map(|(from, to)| (P, from, to))));
+    let facts = [round(P, 2, 70), steps(P, 3, 10)].concat();
+    let name = "found: three rings of three at one object, four asked, two parts";
+    lines.cyclic(name, NO_RULES, query, facts);
 }
