@@ -204,6 +204,6 @@ fn found_last(lines: &mut Lines) {
 
     let edges = [(7, 3), (0, 0), (4, 8), (1, 3), (1, 4), (1, 0)];
     let query = ask(&[7, 8], roles(&edges.map(|(from, to)| (P, from, to))));
-    let name = "found: chain of four both ways, ends asked, beside its middle a role to itself";
+    let name = "found: chain of four both ways, ends asked, beside it a role to itself";
     lines.acyclic(name, &[Rule::both_ways(P)], query, dense(P, (0, 98), (0, 100)));
 }
