@@ -109,11 +109,17 @@ fn found_ahead(lines: &mut Lines) {
     lines.cyclic(name, NO_RULES, query, round(P, 2, 70));
 }
 
-/// With the order of atoms as it is now: three rings of three at one object, which two parts do not close, nor a third one behind them.
+/// With the first of equal atoms taken: three rings of three at one object, which two parts do not close, nor a third one behind them. With
+/// rings closed first: a clique and one role more, both ways, two asked, over three parts.
 fn found_last(lines: &mut Lines) {
     let edges = [(0, 4), (4, 2), (1, 4), (1, 6), (0, 3), (3, 4), (2, 0), (2, 1)];
     let query = ask(&[1, 0, 2, 3], roles(&edges.map(|(from, to)| (P, from, to))));
     let facts = [round(P, 2, 70), steps(P, 3, 10)].concat();
     let name = "found: three rings of three at one object, four asked, two parts";
     lines.cyclic(name, NO_RULES, query, facts);
+
+    let edges = [(0, 1), (2, 1), (1, 3), (0, 3), (0, 2), (2, 3), (3, 2)];
+    let query = ask(&[3, 0], roles(&edges.map(|(from, to)| (P, from, to))));
+    let name = "found: clique and a role back both ways, two asked, three parts";
+    lines.cyclic(name, &[Rule::both_ways(P)], query, onward(P, 3, 57));
 }
