@@ -18,11 +18,11 @@ extern "C" {
 #endif
 
 /* The version of header and library; CHANGELOG.md says what changed. */
-#define TAKWISHAN_VERSION "0.10.0"
+#define TAKWISHAN_VERSION "0.11.0"
 
 /* The longest sheets, in bytes; a longer one is refused. */
 enum {
-    TAKWISHAN_MOST_RULE_BYTES = 2048,     /* 512 rules of 4 bytes */
+    TAKWISHAN_MOST_RULE_BYTES = 2048,     /* 512 records of 4 bytes */
     TAKWISHAN_MOST_QUESTION_BYTES = 61,   /* 1 byte, 4 answer terms of 3 bytes, 8 atoms of 6 bytes */
     TAKWISHAN_MOST_UNION_BYTES = 33282,   /* 2 bytes, 512 members of 4 bytes and a question */
     TAKWISHAN_MOST_FACT_BYTES = 60000     /* 10,000 facts of 6 bytes */
@@ -30,7 +30,7 @@ enum {
 
 /* What a sheet may hold. */
 enum {
-    TAKWISHAN_MOST_RULES = 512,
+    TAKWISHAN_MOST_RULES = 512,           /* as read: a kind 3 and its kind 4 count as three */
     TAKWISHAN_MOST_TERMS = 4,
     TAKWISHAN_MOST_ATOMS = 8,
     TAKWISHAN_MOST_VARIABLE = 31,
@@ -46,13 +46,25 @@ enum {
     TAKWISHAN_LAST_LOST_TAG = 65535
 };
 
-/* What is refused: the first entry whose condition holds decides, for the earlier ones not holding. */
+/*
+ * Helpers: a rule of kind 3 and its kind 4 are read as three rules over a helper role. The first such pair of a sheet has role 4,095, the
+ * next 4,094, and so on down. Members of a union may use them; as a role of a written rule, the question or a fact one is refused (18).
+ */
+enum {
+    TAKWISHAN_FIRST_HELPER = 4095
+};
+
+/*
+ * What is refused: the first entry whose condition holds decides, for the earlier ones not holding. The order is that of the numbers, but
+ * 17 comes after 2, and 18 after 13 when drawing, after 11 when checking, and after 5 when writing a union.
+ */
 enum takwishan_number {
     /* Not refused. */
     TAKWISHAN_ACCEPTED = 0,
     /* The rule sheet's length is no multiple of 4 or exceeds 2,048 bytes. */
     TAKWISHAN_RULE_SHEET_LENGTH = 1,
-    /* A rule has a kind or form not named above. (01 names kind 1 with forms 0 to 2, and kind 2 with left form 0 and right form 0 or 1.) */
+    /* A rule has a kind or form not named above. (01 names kind 1 with forms 0 to 2, and kind 2 with left form 0 and right form 0 or 1. Of
+     * kinds 3 and 4 this judges nothing: see 17.) */
     TAKWISHAN_NO_SUCH_RULE = 2,
     /* The question has a count out of range, a set bit that must be zero, a variable above 31, or a wrong length. */
     TAKWISHAN_QUESTION_MALFORMED = 3,
@@ -82,7 +94,13 @@ enum takwishan_number {
     /* More than 512 unlike questions. (They are counted from the question on, by zero or more steps; only writing a union meets this.) */
     TAKWISHAN_TOO_MANY_QUESTIONS = 15,
     /* The lent sheet is shorter than the union. (Only writing a union meets this.) */
-    TAKWISHAN_SHEET_TOO_SHORT = 16
+    TAKWISHAN_SHEET_TOO_SHORT = 16,
+    /* A kind 3 without its kind 4, a kind 4 by itself, a form or zero field in either that isn't as said, or over 512 rules as read.
+     * (Kind 3 has left form 0, 1 or 2 and right form 1 or 2; the next record is its kind 4, with left form 0 and zeros on the right.) */
+    TAKWISHAN_PAIR_MALFORMED = 17,
+    /* A helper number as a role in a written rule, the question or a fact. (Only helpers in use count; a concept of that number is no
+     * clash, and members are not judged.) */
+    TAKWISHAN_HELPER_AS_ROLE = 18
 };
 
 /* What a call that draws answers gives beside the list. */
@@ -104,15 +122,18 @@ struct takwishan_part {
     size_t length;
 };
 
-/* Checks a union against rules and question: the number of the first refusal of 1 to 11 that applies, or 0 where the union is accepted. */
+/*
+ * Checks a union against rules and question: the number of the first refusal of 1, 2, 17, 3 to 11 and 18 that applies, in this order, or 0
+ * where the union is accepted. There are no facts here: where only a fact has a helper for its role this gives 0, and drawing gives 18.
+ */
 uint32_t takwishan_check(const uint8_t *rules, size_t rules_length, const uint8_t *question, size_t question_length,
                          const uint8_t *union_sheet, size_t union_length);
 
 /*
  * Draws the answers into the list. Where the number is 0, the list holds `count` tuples, each with as many objects of two bytes as the
  * question has answer terms, ascending, each once: exactly those that facts and rules bear out and that hold no lost tag. The bytes after
- * them are zero. On a refusal of 1 to 14 the count is 0 and the whole list is zeros. A lost tag among the answer terms is no refusal: such
- * a question has no answers.
+ * them are zero. On a refusal, the first of 1, 2, 17, 3 to 13, 18 and 14 in this order, the count is 0 and the whole list is zeros. A lost
+ * tag among the answer terms is no refusal: such a question has no answers.
  */
 struct takwishan_answers takwishan_answer(const uint8_t *rules, size_t rules_length, const uint8_t *question, size_t question_length,
                                           const uint8_t *union_sheet, size_t union_length, const uint8_t *facts, size_t facts_length,
@@ -122,8 +143,9 @@ struct takwishan_answers takwishan_answer(const uint8_t *rules, size_t rules_len
  * Writes the union of rules and question into the lent sheet. Where the number is 0, the first `length` bytes of the sheet are a union of
  * `count` members that is accepted for these rules and this question. The bytes after them are zero and no part of it: hand on `length`,
  * not the length that was lent. Members are taken in index order; for each, atoms in order with rules in order, then pairs of atoms by the
- * earlier and then the later one; a result alike to no member so far is appended. On a refusal of 1 to 5, 15 or 16 count and length are 0
- * and the whole sheet is zeros. 15 comes before 16 whatever length was lent; TAKWISHAN_MOST_UNION_BYTES are enough for every union.
+ * earlier and then the later one; a result alike to no member so far is appended. On a refusal, the first of 1, 2, 17, 3 to 5, 18, 15 and
+ * 16 in this order, count and length are 0 and the whole sheet is zeros. 15 comes before 16 whatever length was lent;
+ * TAKWISHAN_MOST_UNION_BYTES are enough for every union.
  */
 struct takwishan_written takwishan_write(const uint8_t *rules, size_t rules_length, const uint8_t *question, size_t question_length,
                                          uint8_t *sheet, size_t sheet_length);

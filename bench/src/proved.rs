@@ -55,7 +55,7 @@ pub fn write(rules: &[u8], question: &[u8], sheet: &mut [u8]) -> Written {
     }
 }
 
-/// The number of the first refusal of 1 to 11 that applies, 0 where the union is accepted. It requires nothing.
+/// The number of the first refusal of 1, 2, 17, 3 to 11 and 18 that applies, 0 where the union is accepted. It requires nothing.
 pub fn check(rules: &[u8], question: &[u8], union: &[u8]) -> u32 {
     unsafe {
         takwishan_check(

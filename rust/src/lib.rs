@@ -24,6 +24,11 @@
 //! assert_eq!(driven, [7, 9]);
 //! # Ok::<(), takwishan::Refusal>(())
 //! ```
+//!
+//! A rule sheet has records of kinds 1 to 4. A kind 3 and the kind 4 after it are one rule, such as "each pump has a motor that is a
+//! drive": each bearer of the left side has the role to something that bears the filler, a concept, or the other way round. The two are
+//! read as three rules over a helper role ([`limits::FIRST_HELPER`]), and rule indices in a union count rules as read. docs/FORMAT.md has
+//! the bytes.
 #![warn(missing_docs)]
 
 pub mod limits;
@@ -36,7 +41,8 @@ pub use refusal::Refusal;
 /// The version of wrapper, header and library; CHANGELOG.md says what changed.
 pub const VERSION: &str = env!("CARGO_PKG_VERSION");
 
-/// Checks a union against rules and question: the first refusal of 1 to 11 that applies, or `Ok` where the union is accepted.
+/// Checks a union against rules and question: the first refusal of 1, 2, 17, 3 to 11 and 18 that applies, in this order, or `Ok` where the
+/// union is accepted. There are no facts here: where only a fact has a helper for its role this is `Ok`, and [`answer`] gives 18.
 pub fn check(rules: &[u8], question: &[u8], union: &[u8]) -> Result<(), Refusal> {
     given(linked::check(rules, question, union))
 }
@@ -45,8 +51,10 @@ pub fn check(rules: &[u8], question: &[u8], union: &[u8]) -> Result<(), Refusal>
 ///
 /// The list then holds that many tuples, each with as many objects as the question has answer terms, two bytes an object with the high byte
 /// first, ascending, each once; the bytes after them are zero. They are exactly the tuples that facts and rules bear out and that hold no
-/// lost tag ([`limits::LOST_TAGS`]): an object without a tag may help a match, but a tuple with one is neither listed nor counted, and takes
-/// no room. On a refusal of 1 to 14 the whole list is zeros. A question without answer terms has 0 answers or 1, and writes no bytes.
+/// lost tag ([`limits::LOST_TAGS`]): an object without a tag may help a match, but a tuple with one is neither listed nor counted, and
+/// takes no room. A question without answer terms has 0 answers or 1, and writes no bytes.
+///
+/// On a refusal the whole list is zeros. It is the first of 1, 2, 17, 3 to 13, 18 and 14 that applies, in this order.
 pub fn answer(rules: &[u8], question: &[u8], union: &[u8], facts: &[u8], list: &mut [u8]) -> Result<usize, Refusal> {
     let drawn = outcome(rules, question, union, facts, list);
     given(drawn.number)?;
@@ -62,8 +70,8 @@ pub fn outcome(rules: &[u8], question: &[u8], union: &[u8], facts: &[u8], list: 
 ///
 /// Members are taken in index order; for each, atoms in order with rules in order, then pairs of atoms by the earlier and then the later
 /// one; a result alike to no member so far is appended, with its step and as the step leaves it. Roles are written as they are read: of two
-/// partners the lower. The bytes are fixed by this, and the union is one that is accepted. It is refused with the first of 1 to 5 and 15
-/// that applies; never with 16, since there is room for every union.
+/// partners the lower. The bytes are fixed by this, and the union is one that is accepted. It is refused with the first of 1, 2, 17, 3 to
+/// 5, 18 and 15 that applies, in this order; never with 16, since there is room for every union.
 ///
 /// ```
 /// let rules = [0x10, 0x00, 0x60, 0x00]; // each concept 1 is driven by something
@@ -96,8 +104,8 @@ pub struct Written {
 
 /// The same into a lent sheet, of any length: [`limits::MOST_UNION_BYTES`] are enough for every union.
 ///
-/// The first `length` bytes of the sheet are the union, the bytes after them are zero. On a refusal of 1 to 5, 15 and 16 the whole sheet is
-/// zeros. 15 comes before 16 whatever the sheet's length.
+/// The first `length` bytes of the sheet are the union, the bytes after them are zero. On a refusal the whole sheet is zeros. It is the
+/// first of 1, 2, 17, 3 to 5, 18, 15 and 16 that applies, in this order: 15 before 16 whatever the sheet's length.
 ///
 /// ```
 /// let rules = [0x10, 0x00, 0x60, 0x00];
@@ -134,6 +142,6 @@ pub fn member(union: &[u8], m: usize) -> &[u8] {
 fn given(number: u32) -> Result<(), Refusal> {
     match number {
         0 => Ok(()),
-        n => Err(Refusal::from_number(n).expect("the library gives no number above 16")),
+        n => Err(Refusal::from_number(n).expect("the library gives no number above 18")),
     }
 }

@@ -5,7 +5,7 @@ use std::fmt;
 macro_rules! refusals {
     ($($case:ident = $number:literal: $sentence:literal,)*) => {
         /// Why a call was refused. The first entry whose condition holds decides, for the earlier ones not holding. Checking a union uses
-        /// 1 to 11, drawing answers 1 to 14, writing a union 1 to 5, then 15 and 16.
+        /// 1 to 11 and then 18, drawing answers 1 to 13, then 18 and 14, writing a union 1 to 5, then 18, 15 and 16; 17 comes after 2.
         #[derive(Clone, Copy, Debug, PartialEq, Eq, PartialOrd, Ord, Hash)]
         pub enum Refusal {
             $(#[doc = concat!(stringify!($number), ": ", $sentence)] $case = $number,)*
@@ -43,10 +43,13 @@ refusals! {
     ListTooShort = 14: "The answer list is shorter than 2 × terms × answers bytes.",
     TooManyQuestions = 15: "More than 512 unlike questions.",
     SheetTooShort = 16: "The lent sheet is shorter than the union.",
+    PairMalformed = 17: "A kind 3 without its kind 4, a kind 4 by itself, a form or zero field in either that isn't as said, \
+        or over 512 rules as read.",
+    HelperAsRole = 18: "A helper number as a role in a written rule, the question or a fact.",
 }
 
 impl Refusal {
-    /// Its number on the list, 1 to 16.
+    /// Its number on the list, 1 to 18.
     pub fn number(self) -> u32 {
         self as u32
     }
@@ -77,7 +80,7 @@ mod tests {
             assert_eq!(Refusal::from_number(refusal.number()), Some(*refusal));
         }
         assert_eq!(Refusal::from_number(0), None);
-        assert_eq!(Refusal::from_number(17), None);
+        assert_eq!(Refusal::from_number(19), None);
     }
 
     #[test]

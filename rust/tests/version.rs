@@ -35,6 +35,13 @@ fn wrapper_and_header_have_the_same_lost_tags() {
     assert_eq!(last, Some(tags.end().to_string().as_str()));
 }
 
+#[test]
+fn wrapper_and_header_have_the_same_first_helper() {
+    let header = include_str!("../../include/takwishan.h");
+    let line = format!("    TAKWISHAN_FIRST_HELPER = {}", takwishan::limits::FIRST_HELPER);
+    assert!(header.lines().any(|other| other == line), "the header lacks {line}");
+}
+
 /// A case's name as the header has it: `RuleSheetLength` is `RULE_SHEET_LENGTH`.
 fn in_c(refusal: takwishan::Refusal) -> String {
     let mut name = String::new();

@@ -26,10 +26,15 @@ fn k1_is_written_as_it_is_stored() {
     assert_eq!(written(&k1.rules, &k1.question, 30), (Ok(size), k1.union));
 }
 
-/// The union of a case of T-02 is the one that is written for its rules and question.
+/// The union of a case of T-02 is the one that is written for its rules and question; so is that of a case of T-04 that is accepted, but
+/// for the one whose members have another order and dress.
 #[test]
-fn cases_of_t_02_are_written_as_they_are_stored() {
-    for case in vectors::all().into_iter().filter(|case| case.name.starts_with("T02-")) {
+fn cases_of_t_02_and_t_04_are_written_as_they_are_stored() {
+    let as_written = |case: &Case| {
+        let accepted = case.outcome().0 == 0 && case.name != "T04-members";
+        case.name.starts_with("T02-") || case.name.starts_with("T04-") && accepted
+    };
+    for case in vectors::all().into_iter().filter(as_written) {
         assert_eq!(write(&case.rules, &case.question), Ok(case.union), "{}", case.name);
     }
 }

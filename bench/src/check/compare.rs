@@ -1,13 +1,46 @@
 //! The numbers of both checks on random small sheets, sound and damaged. A difference stops the run.
 use super::unions::{concept_rule, made, object, role_rule, Bytes, Draw, Numbering};
-use super::words::{Atom, Query, Rule, Term};
+use super::words::{Atom, Query, Rule, Term, FIRST_HELPER};
 use super::{check, Counts};
-use crate::proved;
+use crate::plain::as_read;
+use crate::{proved, PARTNERS};
 
-/// A random rule over two concepts and roles 0 to 3 and 16, partners among them.
-pub fn rule(draw: &mut Draw) -> Rule {
-    let mut role = || [0, 1, 2, 3, 16][draw.below(5)];
-    let (left, right) = (role(), role());
+/// A random role of 0 to 3 and 16, partners among them; at times the first helper.
+fn role(draw: &mut Draw) -> u32 {
+    match draw.below(64) {
+        0 => FIRST_HELPER,
+        other => [0, 1, 2, 3, 16][other % 5],
+    }
+}
+
+/// So many random rules, as records: in some sheets many of them are pairs.
+pub fn records(draw: &mut Draw, count: usize) -> Vec<Rule> {
+    let pairs = draw.below(2) == 0;
+    let mut records = Vec::new();
+    for _ in 0..count {
+        match pairs && draw.below(3) == 0 {
+            true => records.extend(pair(draw)),
+            false => records.push(rule(draw)),
+        }
+    }
+    records
+}
+
+/// A kind 3 and its kind 4.
+fn pair(draw: &mut Draw) -> [Rule; 2] {
+    let left = match draw.below(3) as u32 {
+        0 => (0, draw.below(2) as u32),
+        form => (form, role(draw)),
+    };
+    let right = (1 + draw.below(2) as u32, role(draw));
+    let Rule(word) = concept_rule(left, right);
+    let filler = draw.below(2) as u32;
+    [Rule(word + (2 << 28)), Rule(4 << 28 | filler << 14)]
+}
+
+/// A random rule over two concepts and some roles.
+fn rule(draw: &mut Draw) -> Rule {
+    let (left, right) = (role(draw), role(draw));
     if draw.below(3) == 0 {
         return role_rule(left, right, draw.below(2) == 0);
     }
@@ -35,7 +68,10 @@ pub fn question(draw: &mut Draw) -> Query {
         let first = term(draw, variables);
         let atom = match draw.below(3) {
             0 => Atom::concept(draw.below(2) as u32, first),
-            _ => Atom::role([0, 2, 16][draw.below(3)], first, term(draw, variables)),
+            _ => {
+                let (role, _) = as_read(role(draw) as u16, &PARTNERS);
+                Atom::role(role as u32, first, term(draw, variables))
+            }
         };
         if !atoms.contains(&atom) {
             atoms.push(atom);
@@ -70,7 +106,7 @@ pub fn damaged(draw: &mut Draw, bytes: &mut Bytes) {
 
 pub fn run(sheets: usize) {
     let mut draw = Draw(0x2545_f491_4f6c_dd1d);
-    let mut seen = [0usize; 12];
+    let mut seen = [0usize; 19];
     let mut compare = |bytes: &Bytes| {
         let Bytes {
             rules,
@@ -94,7 +130,7 @@ pub fn run(sheets: usize) {
         } else {
             draw.below(6)
         };
-        let rules: Vec<Rule> = (0..count).map(|_| rule(&mut draw)).collect();
+        let rules = records(&mut draw, count);
         let numbering = match draw.below(3) {
             0 => Numbering::Kept,
             1 => Numbering::Reversed,
@@ -106,8 +142,7 @@ pub fn run(sheets: usize) {
         };
         // the rules' partners are read, so that the steps are those of the sheet
         let packed: Vec<u8> = rules.iter().flat_map(|rule| rule.0.to_be_bytes()).collect();
-        let read =
-            super::words::read_rules(&packed, &crate::PARTNERS).expect("the rules are sound");
+        let read = super::words::read_rules(&packed, &PARTNERS).expect("the rules are sound");
         let mut sheet = made(&read, question(&mut draw), numbering, most);
         sheet.rules = rules;
         compare(&sheet.bytes());
@@ -138,10 +173,9 @@ pub fn run(sheets: usize) {
     }
     let total: usize = seen.iter().sum();
     println!("compared {total} sheets: both checks gave the same number on each");
-    let numbers: Vec<String> = seen
-        .iter()
-        .enumerate()
-        .map(|(number, count)| format!("{number}: {count}"))
+    let numbers: Vec<String> = (0..12)
+        .chain([17, 18])
+        .map(|number| format!("{number}: {}", seen[number]))
         .collect();
     println!("numbers given: {}", numbers.join(", "));
 }

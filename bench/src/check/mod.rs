@@ -1,5 +1,5 @@
-//! The check of a union in plain Rust, with the proved library's algorithm: refusals 1 to 11 in 01's order, keys computed once, a
-//! comparison up to renaming only where two keys agree. It is written with references, slices and iterators, and nothing is
+//! The check of a union in plain Rust, with the proved library's algorithm: refusals 1, 2, 17, 3 to 11 and 18 in this order, keys computed
+//! once, a comparison up to renaming only where two keys agree. It is written with references, slices and iterators, and nothing is
 //! allocated but the tables.
 pub mod bad;
 pub mod cards;
@@ -15,7 +15,7 @@ pub mod words;
 pub use key::key_of;
 use std::cell::Cell;
 use steps::{merge_step, names, rule_step};
-use words::{read_question, read_rules, Query, Rule};
+use words::{clashes, read_question, read_rules, Query, Rule};
 
 use crate::{plain, MOST_MEMBERS, PARTNERS, ROW};
 
@@ -248,8 +248,8 @@ fn check_union(rules: &[Rule], question: &Query, members: &[Member], counts: &mu
     0
 }
 
-fn refusal(rules: &[u8], question: &[u8], union: &[u8], counts: &mut Counts) -> Result<u32, u32> {
-    let rules = read_rules(rules, &PARTNERS)?;
+fn refusal(records: &[u8], question: &[u8], union: &[u8], counts: &mut Counts) -> Result<u32, u32> {
+    let rules = read_rules(records, &PARTNERS)?;
     let question = read_question(question, &PARTNERS)?;
     let mut table = vec![0; ROW * MOST_MEMBERS];
     let read = plain::read_union(union, &PARTNERS, question.answers().len(), &mut table);
@@ -262,10 +262,13 @@ fn refusal(rules: &[u8], question: &[u8], union: &[u8], counts: &mut Counts) -> 
         query: Query::from_row(row),
     };
     let members: Vec<Member> = rows.iter().map(member).collect();
-    Ok(check_union(&rules, &question, &members, counts))
+    match check_union(&rules, &question, &members, counts) {
+        0 if clashes(records, &question) => Ok(18),
+        number => Ok(number),
+    }
 }
 
-/// The number of the first refusal of 1 to 11 that applies, 0 where the union is accepted.
+/// The number of the first refusal of 1, 2, 17, 3 to 11 and 18 that applies, 0 where the union is accepted.
 #[inline(never)]
 pub fn check(rules: &[u8], question: &[u8], union: &[u8], counts: &mut Counts) -> u32 {
     refusal(rules, question, union, counts).unwrap_or_else(|number| number)

@@ -1,7 +1,7 @@
 //! What both writers give, byte by byte, on random rules and questions, sound and damaged, for sheets of many lengths. A difference stops
 //! the run.
 use super::{write, Written, LONGEST};
-use crate::check::compare::{damaged, question, rule};
+use crate::check::compare::{damaged, question, records};
 use crate::check::unions::{packed, Bytes, Draw};
 use crate::check::Counts;
 use crate::proved;
@@ -39,10 +39,12 @@ fn around(name: &str, rules: &[u8], question: &[u8], draw: &mut Draw) -> Vec<u32
 
 pub fn run(sheets: usize) {
     let mut draw = Draw(0x2545_f491_4f6c_dd1d);
-    let mut seen = [0usize; 17];
+    let mut seen = [0usize; 19];
     for case in 0..sheets {
-        let rules: Vec<u8> = (0..draw.below(6))
-            .flat_map(|_| rule(&mut draw).0.to_be_bytes())
+        let count = draw.below(6);
+        let rules = records(&mut draw, count)
+            .iter()
+            .flat_map(|record| record.0.to_be_bytes())
             .collect();
         let mut bytes = Bytes {
             rules,
@@ -59,7 +61,7 @@ pub fn run(sheets: usize) {
     }
     let total: usize = seen.iter().sum();
     println!("compared {total} sheets written: both writers gave the same bytes, number, count and length on each");
-    let numbers: Vec<String> = [0, 1, 2, 3, 4, 5, 15, 16]
+    let numbers: Vec<String> = [0, 1, 2, 3, 4, 5, 15, 16, 17, 18]
         .iter()
         .map(|&number| format!("{number}: {}", seen[number]))
         .collect();

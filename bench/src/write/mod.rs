@@ -5,7 +5,7 @@ mod measure;
 
 use crate::check::steps::{merge_step, names, rule_step};
 use crate::check::unions::packed;
-use crate::check::words::{read_question, read_rules, Query, Rule};
+use crate::check::words::{clashes, read_question, read_rules, Query, Rule};
 use crate::check::{alike_to_one, key_of, Counts, Member};
 use crate::{MOST_MEMBERS, PARTNERS};
 
@@ -78,10 +78,13 @@ impl Writer<'_> {
     }
 }
 
-/// The members of the union, or the first refusal of 1 to 5 and 15.
-fn members(rules: &[u8], question: &[u8], counts: &mut Counts) -> Result<Vec<Member>, u32> {
-    let rules = read_rules(rules, &PARTNERS)?;
+/// The members of the union, or the first refusal of 1, 2, 17, 3 to 5, 18 and 15.
+fn members(records: &[u8], question: &[u8], counts: &mut Counts) -> Result<Vec<Member>, u32> {
+    let rules = read_rules(records, &PARTNERS)?;
     let query = read_question(question, &PARTNERS)?;
+    if clashes(records, &query) {
+        return Err(18);
+    }
     let mut writer = Writer {
         rules: &rules,
         members: Vec::with_capacity(MOST_MEMBERS),
@@ -107,7 +110,7 @@ fn bytes(members: &[Member]) -> Vec<u8> {
     union
 }
 
-/// Writes the union into the sheet, zeros after it, or zeros only on a refusal: 1 to 5, 15, 16.
+/// Writes the union into the sheet, zeros after it, or zeros only on a refusal: 1, 2, 17, 3 to 5, 18, 15, 16.
 #[inline(never)]
 pub fn write(rules: &[u8], question: &[u8], sheet: &mut [u8], counts: &mut Counts) -> Written {
     sheet.fill(0);

@@ -2,17 +2,13 @@
 use mathlib.Core.Path.{_≡_}
 use Prim.Native.Nat.{ℕ, _*_}
 use mathlib.Core.List.{List}
-use lib.Dec.{eqb, ltb}
+use lib.Dec.{ltb}
 use lib.ListN.{length, replicate}
 use Rattle.theory.specs.Lists.{pick}
 use Rattle.theory.specs.Syntax.{UCQ, Fact}
 use Rattle.theory.specs.Evaluation.{answersOf}
 use Rattle.sheets.specs.AnswerList.{tupleSize, listBytes}
 use Rattle.answer_draw.specs.declared.Answers.{Answers}
-
--- a number that is not 0 is final, and else the next decides
-unfoldable pub otherwise : ℕ → ℕ → ℕ
-otherwise number next = pick (eqb number 0) next number
 
 -- 14: the answers and the room for them
 abbrev pub roomNumber : ℕ → ℕ → List (List ℕ) → ℕ

@@ -7,7 +7,8 @@ use lib.ListN.{replicate}
 use borrow.Author.Tests.{eq-eqb, ne-eqb}
 use Rattle.theory.specs.Lists.{pick}
 use Rattle.answer_draw.specs.declared.Answers.{Answers}
-use Rattle.answer_draw.specs.Gives.{otherwise, Gives}
+use Rattle.theory.specs.Refusals.{otherwise}
+use Rattle.answer_draw.specs.Gives.{Gives}
 
 module _ (room : ℕ) (answers : List (List ℕ)) (number first next : ℕ) (r : Answers) (list : List ℕ) (e : number ≡ first) where
   pub refused-first : (number ≡ 0 → ⊥) → (r .number ≡ number) × (r .count ≡ 0) × (list ≡ replicate room 0)

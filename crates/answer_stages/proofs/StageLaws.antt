@@ -1,8 +1,8 @@
 -- Facts and members as they were read are what drawing asks for, and a refusal of theirs is what the call gives.
-use mathlib.Core.Path.{_≡_, refl, sym, _∙_, subst}
+use mathlib.Core.Path.{_≡_, refl, sym, ap, _∙_, subst}
 use Prim.Native.Nat.{ℕ, _≤_, _<_}
 use native.Mathlib.Omega.{arith}
-use mathlib.Core.Bool.{Bool, true, false}
+use mathlib.Core.Bool.{Bool, true, false, _||_}
 use mathlib.Core.Option.{Option, none}
 use mathlib.Core.List.{List, [], _∷_}
 use lib.Dec.{T}
@@ -25,6 +25,8 @@ use Rattle.sheets.specs.Reading.{unionAsRead, factsAsRead}
 use Rattle.sheets.specs.Tests.{refuses6}
 use Rattle.sheets.specs.Laws.ObjectRange.{facts-in-range}
 use Rattle.sheets.specs.Laws.UnionRefusals.{sound-members}
+use Rattle.theory.specs.Qualified.{rolesOfAtoms}
+use Rattle.read_helpers.specs.InUse.{clashing}
 use Rattle.read_facts.specs.FactSheets.{FactsRead}
 use Rattle.check_sheet.specs.Members.{Members, unionNumber, MembersRead}
 use Rattle.answer_settled.specs.Search.{TuplesInRange}
@@ -32,9 +34,9 @@ use Rattle.answer_settled.specs.Laws.InRange.{tuples-in-range}
 use Rattle.answer_evaluate.specs.Merges.{SafeMembers, MergesMade}
 use Rattle.answer_evaluate.specs.MergeLaws.{merges-made}
 use Rattle.answer_draw.specs.declared.Answers.{Answers}
-use Rattle.answer_draw.specs.Gives.{roomNumber, GivesAnswers}
+use Rattle.answer_draw.specs.Gives.{GivesAnswers}
 use Rattle.answer_draw.specs.GivesLaws.{refused-first, goes-on}
-use Rattle.answer_stages.specs.Stages.{factsNumber, GivesFromFacts, GivesFromUnion}
+use Rattle.answer_stages.specs.Stages.{factsNumber, clashNumber, GivesFromFacts, GivesFromUnion}
 
 -- ---- the members in the table
 
@@ -54,9 +56,9 @@ constants-there table n terms m = record { each = m .constants }
 -- ---- facts, as they were read
 
 module _ (p s words : List ℕ) (number count : ℕ) (read : FactsRead p s words number count) where
-  pub facts-refused : (room terms : ℕ) (union : UCQ) (r : Answers) (list : List ℕ) → (number ≡ 0 → ⊥)
-      → (r .number ≡ number) × (r .count ≡ 0) × (list ≡ replicate room 0) → GivesFromFacts p s union terms room r list
-  facts-refused room terms union r list h g =
+  pub facts-refused : (room terms helpers : ℕ) (clash : Bool) (union : UCQ) (r : Answers) (list : List ℕ) → (number ≡ 0 → ⊥)
+      → (r .number ≡ number) × (r .count ≡ 0) × (list ≡ replicate room 0) → GivesFromFacts p s union terms helpers clash room r list
+  facts-refused room terms helpers clash union r list h g =
       refused-first room (answersOf (factsAsRead p sheetWidth s) union) number (factsNumber s) _ r list (read .sheet .number-is) h g
 
   pub facts-few : count ≤ mostFacts
@@ -75,12 +77,27 @@ module _ (p s words : List ℕ) (number count : ℕ) (read : FactsRead p s words
         tuples-in-range (factsIn words count) (unionIn table n) (λ f m. facts-in-range p s f (mem-along (read .sheet .read zero) m))
         (members .each)
 
-    pub facts-pass : (room terms : ℕ) (union : UCQ) (r : Answers) (list : List ℕ)
-        → GivesAnswers (factsIn words count) union terms room r list → GivesFromFacts p s union terms room r list
-    facts-pass room terms union r list g =
-        goes-on room (answersOf (factsAsRead p sheetWidth s) union) number (factsNumber s)
-        (roomNumber room terms (answersOf (factsAsRead p sheetWidth s) union)) r list (read .sheet .number-is) zero
-        (subst (λ fs. GivesAnswers fs union terms room r list) (read .sheet .read zero) g)
+    -- c is what the code found of clashes
+    module _ (room terms helpers : ℕ) (clash : Bool) (union : UCQ) (r : Answers) (list : List ℕ) (c : Bool)
+        (e : c ≡ (clash || clashing helpers (rolesOfAtoms (factsIn words count)))) where
+      clash-is : pick c 18 0 ≡ clashNumber clash helpers (factsAsRead p sheetWidth s)
+      clash-is = ap (λ b. pick b 18 0) (e ∙ ap (λ fs. clash || clashing helpers (rolesOfAtoms fs)) (read .sheet .read zero))
+
+      pub facts-clash : c ≡ true → (r .number ≡ 18) × (r .count ≡ 0) × (list ≡ replicate room 0)
+          → GivesFromFacts p s union terms helpers clash room r list
+      facts-clash t g =
+          goes-on room (answersOf (factsAsRead p sheetWidth s) union) number (factsNumber s) _ r list (read .sheet .number-is) zero
+          (refused-first room (answersOf (factsAsRead p sheetWidth s) union) 18
+          (clashNumber clash helpers (factsAsRead p sheetWidth s)) _ r list
+          (ap (λ b. pick b 18 0) (sym t) ∙ clash-is) (λ z. omega arith) g)
+
+      pub facts-pass : c ≡ false → GivesAnswers (factsIn words count) union terms room r list
+          → GivesFromFacts p s union terms helpers clash room r list
+      facts-pass f g =
+          goes-on room (answersOf (factsAsRead p sheetWidth s) union) number (factsNumber s) _ r list (read .sheet .number-is) zero
+          (goes-on room (answersOf (factsAsRead p sheetWidth s) union) 0 (clashNumber clash helpers (factsAsRead p sheetWidth s)) _ r list
+          (ap (λ b. pick b 18 0) (sym f) ∙ clash-is) refl
+          (subst (λ fs. GivesAnswers fs union terms room r list) (read .sheet .read zero) g))
 
 -- ---- the union, as it was read
 
@@ -129,18 +146,20 @@ module _ (p : List ℕ) (rules : List Rule) (q : Query) (terms : ℕ) (s table :
       (merges-made rules q (unionAsRead p sheetWidth s)
       (check-accepts rules q (unionAsRead p sheetWidth s) .0 (check-passed rules q (unionAsRead p sheetWidth s) (passed zero .1))))
 
-  pub union-refused : (facts : List ℕ) (room : ℕ) (r : Answers) (list : List ℕ) → (number ≡ 0 → ⊥)
-      → (r .number ≡ number) × (r .count ≡ 0) × (list ≡ replicate room 0) → GivesFromUnion p rules q terms s facts room r list
-  union-refused facts room r list h g =
+  pub union-refused : (facts : List ℕ) (helpers : ℕ) (clash : Bool) (room : ℕ) (r : Answers) (list : List ℕ) → (number ≡ 0 → ⊥)
+      → (r .number ≡ number) × (r .count ≡ 0) × (list ≡ replicate room 0)
+      → GivesFromUnion p rules q terms s facts helpers clash room r list
+  union-refused facts helpers clash room r list h g =
       refused-first room (answersOf (factsAsRead p sheetWidth facts) (unionAsRead p sheetWidth s)) number
       (unionNumber p rules q terms s) _ r list
       (read .number-is) h g
 
-  pub union-passes : (facts : List ℕ) (room : ℕ) (r : Answers) (list : List ℕ) → number ≡ 0
-      → GivesFromFacts p facts (unionIn table count) terms room r list → GivesFromUnion p rules q terms s facts room r list
-  union-passes facts room r list zero g =
+  pub union-passes : (facts : List ℕ) (helpers : ℕ) (clash : Bool) (room : ℕ) (r : Answers) (list : List ℕ) → number ≡ 0
+      → GivesFromFacts p facts (unionIn table count) terms helpers clash room r list
+      → GivesFromUnion p rules q terms s facts helpers clash room r list
+  union-passes facts helpers clash room r list zero g =
       goes-on room (answersOf (factsAsRead p sheetWidth facts) (unionAsRead p sheetWidth s)) number (unionNumber p rules q terms s) _ r list
-      (read .number-is) zero (subst (λ u. GivesFromFacts p facts u terms room r list) (read .union-is zero) g)
+      (read .number-is) zero (subst (λ u. GivesFromFacts p facts u terms helpers clash room r list) (read .union-is zero) g)
 
 pub ruleset factLaws = (
   needs,
@@ -152,6 +171,7 @@ pub ruleset factLaws = (
   facts-within,
   zeros-there,
   found-in-range,
+  facts-clash,
   facts-pass,
 )
 

@@ -1,54 +1,39 @@
 -- What the stages of `answer` give is the outcome that the contract names, and the outcome has the meaning that the contract says.
 use mathlib.Core.Path.{_≡_, refl, sym, ap, ap₂, _∙_, subst}
-use mathlib.Core.Logic.{_↔_}
 use Prim.Native.Nat.{ℕ}
-use native.Mathlib.Omega.{arith}
-use mathlib.Core.Bool.{Bool, true, false}
-use mathlib.Core.Option.{Option, none, some, orElse}
-use mathlib.Core.List.{List}
+use mathlib.Core.Bool.{Bool, true, false, _||_}
+use mathlib.Core.List.{List, [], _∷_}
 use lib.Dec.{T, eqb, ltb}
 use lib.ListN.{replicate}
 use borrow.Author.Needs.{needs}
-use borrow.Author.Tests.{ne-eqb}
-use Rattle.theory.specs.Lists.{pick, guard, all}
-use Rattle.theory.specs.Refusals.{firstRefusal}
+use Rattle.theory.specs.Lists.{pick, guard}
+use Rattle.theory.specs.Refusals.{firstRefusal, otherwise}
 use Rattle.theory.specs.Evaluation.{answersOf}
+use Rattle.theory.specs.Qualified.{rolesOfAtoms, refuses18}
 use Rattle.theory.specs.Laws.Options.{T-eqb}
 use Rattle.words.specs.Words.{rulesIn, queryOf}
 use Rattle.words.specs.declared.QueryWords.{QueryWords}
 use Rattle.words.specs.Limits.{sheetWidth}
 use Rattle.sheets.specs.Partners.{partners01}
-use Rattle.sheets.specs.Refusals.{Sheets, checking, drawing, refusalOf, factRefusals, numberOf}
-use Rattle.sheets.specs.Reading.{unionAsRead, factsAsRead}
+use Rattle.sheets.specs.Refusals.{Sheets, drawing, refusalOf, numberOf}
+use Rattle.sheets.specs.Reading.{rulesAsWritten, unionAsRead, factsAsRead}
 use Rattle.sheets.specs.Laws.QuestionRefusals.{question-arity}
-use Rattle.sheets.specs.Laws.OneList.{number-zero, drawing-first}
-use Rattle.promises.specs.Checking.{checkNumber}
+use Rattle.sheets.specs.Laws.OneList.{number-zero, clashRefusals, factClash}
+use Rattle.promises.specs.Laws.Checking.{number-else, unclashedNumber, drawing-number}
 use Rattle.promises.specs.Drawing.{theAnswers, termsOf, bytesNeeded, outcome, Drawn}
 use Rattle.promises.specs.Laws.DrawPromises.{number-is, zero-means, fourteen-means, refused-means, count-means, list-means}
 use Rattle.promises.specs.Laws.DrawPromises.{both-readers, ascending, rest-zero}
-use Rattle.promises.specs.Laws.Drawing.{four, checked-same}
-use Rattle.read_rules.specs.RuleWords.{RulesRead}
+use Rattle.promises.specs.Laws.Drawing.{four}
+use Rattle.read_helpers.specs.InUse.{clashing}
+use Rattle.read_rules.specs.RuleWords.{RulesRead, HelpersRead}
+use Rattle.read_rules.specs.RuleLaws.{helpers-within, clash-with}
+use Rattle.read_question.specs.QuestionLaws.{question-small}
 use Rattle.read_question.specs.QuestionWords.{QuestionRead}
 use Rattle.answer_draw.specs.declared.Answers.{Answers}
-use Rattle.answer_draw.specs.Gives.{otherwise, roomNumber, Gives}
+use Rattle.answer_draw.specs.Gives.{roomNumber, Gives}
 use Rattle.answer_draw.specs.GivesLaws.{refused-first, gives-along}
-use Rattle.answer_stages.specs.Stages.{factsNumber, GivesFromUnion}
-use Rattle.answering.proofs.CheckLaws.{rules-refused, question-refused, all-checked}
-
--- ---- numbers, one after the other
-
-number-else : (o o′ : Option ℕ) → ((numberOf o ≡ 0) ↔ (o ≡ none)) → numberOf (orElse o o′) ≡ otherwise (numberOf o) (numberOf o′)
-unfolding orElse numberOf otherwise
-number-else none o′ h = refl
-number-else (some n) o′ h = rw (ne-eqb n 0 (λ z. absurd (let w : some n ≡ none = h .0 z in let v : _≡_ {A = ℕ} 0 1 = cc in omega arith)))
-
-otherwise-assoc : (a b c : ℕ) → otherwise (otherwise a b) c ≡ otherwise a (otherwise b c)
-unfolding otherwise
-otherwise-assoc a b c = go (eqb a 0) refl
-  where
-    go : (t : Bool) → t ≡ eqb a 0 → pick (eqb (pick t b a) 0) c (pick t b a) ≡ pick t (pick (eqb b 0) c b) a
-    go true e = refl
-    go false e = rw (← e)
+use Rattle.answer_stages.specs.Stages.{factsNumber, clashNumber, GivesFromUnion}
+use Rattle.answering.proofs.CheckLaws.{rules-stopped, question-stopped, union-checked, clashes-are}
 
 -- a test on a number, as it was made
 eqb-zero : (n : ℕ) → true ≡ eqb n 0 → n ≡ 0
@@ -62,30 +47,45 @@ unfolding numberOf
 fourteen-number true = refl
 fourteen-number false = refl
 
+otherwise-assoc : (a b c : ℕ) → otherwise (otherwise a b) c ≡ otherwise a (otherwise b c)
+unfolding otherwise
+otherwise-assoc a b c = go (eqb a 0) refl
+  where
+    go : (t : Bool) → t ≡ eqb a 0 → pick (eqb (pick t b a) 0) c (pick t b a) ≡ pick t (pick (eqb b 0) c b) a
+    go true e = refl
+    go false e = rw (← e)
+
 module _ (rules question union facts : List ℕ) (room : ℕ) where
   abbrev needed : ℕ
   needed = bytesNeeded question union facts
 
+  abbrev sheets : Sheets
+  sheets = four rules question union facts
+
+  -- what comes before the facts, and the clashes after them
+  abbrev pub unclashed : ℕ
+  unclashed = unclashedNumber partners01 sheetWidth sheets
+
+  abbrev pub clashes : ℕ
+  clashes =
+      otherwise (numberOf (firstRefusal (clashRefusals partners01 sheetWidth sheets)))
+      (numberOf (firstRefusal (factClash partners01 sheetWidth sheets)))
+
   -- the number of the call, stage by stage
   abbrev staged : ℕ
   staged =
-      otherwise (checkNumber rules question union)
-      (otherwise (factsNumber facts) (roomNumber room (termsOf question) (theAnswers union facts)))
+      otherwise unclashed
+      (otherwise (factsNumber facts) (otherwise clashes (roomNumber room (termsOf question) (theAnswers union facts))))
 
   staged-is : outcome rules question union facts room .number ≡ staged
-  unfolding factRefusals all
   staged-is =
-      let sheets : Sheets = four rules question union facts in
-      let F : Option ℕ = firstRefusal (factRefusals sheetWidth facts) in
+      let last = roomNumber room (termsOf question) (theAnswers union facts) in
       number-is rules question union facts room
       ∙ number-else (refusalOf partners01 sheetWidth drawing sheets) (guard (ltb room needed) 14)
       (number-zero partners01 sheetWidth sheets drawing)
-      ∙ ap₂ otherwise
-      (ap numberOf (drawing-first partners01 sheetWidth sheets)
-      ∙ number-else (refusalOf partners01 sheetWidth checking sheets) F (number-zero partners01 sheetWidth sheets checking)
-      ∙ ap (λ o. otherwise (numberOf o) (numberOf F)) (checked-same rules question union facts))
-      (fourteen-number (ltb room needed))
-      ∙ otherwise-assoc (checkNumber rules question union) (numberOf F) (roomNumber room (termsOf question) (theAnswers union facts))
+      ∙ ap₂ otherwise (drawing-number partners01 sheetWidth sheets) (fourteen-number (ltb room needed))
+      ∙ otherwise-assoc unclashed (otherwise (factsNumber facts) clashes) last
+      ∙ ap (otherwise unclashed) (otherwise-assoc (factsNumber facts) clashes last)
 
   -- what a call must give
   abbrev pub Staged : Answers → List ℕ → Type 0
@@ -138,30 +138,51 @@ module _ (rules question union facts : List ℕ) (room : ℕ) where
 
 -- ---- the stages of a call
 
-module _ (rules question union facts : List ℕ) (p table : List ℕ) (first count : ℕ) (read : RulesRead p rules table first count) where
+-- two clashes of one number
+both-clashes : (a b c : Bool) → otherwise (pick a 18 0) (numberOf (firstRefusal ((18, b) ∷ []))) ≡ pick (a || b) 18 0
+unfolding otherwise numberOf firstRefusal
+both-clashes true b c = refl
+both-clashes false true c = refl
+both-clashes false false c = refl
+
+module _ (rules question union facts : List ℕ) (p table : List ℕ) (first count : ℕ) (read : RulesRead p rules table first count)
+    (table01 : p ≡ partners01) where
   pub rules-final : (first ≡ 0 → ⊥) → (room : ℕ) (r : Answers) (list : List ℕ)
       → (r .number ≡ first) × (r .count ≡ 0) × (list ≡ replicate room 0) → Staged rules question union facts room r list
   rules-final h room r list g =
-      refused-first room (theAnswers union facts) first (checkNumber rules question union) _ r list
-      (rules-refused rules question union p table first count read h) h g
+      refused-first room (theAnswers union facts) first (unclashed rules question union facts room) _ r list
+      (rules-stopped rules question union facts p table first count read table01 h) h g
 
-  module _ (zero : first ≡ 0) (table01 : p ≡ partners01) (second : ℕ) (q : QueryWords) (asked : QuestionRead p question second q) where
+  module _ (zero : first ≡ 0) (second : ℕ) (q : QueryWords) (asked : QuestionRead p question second q) where
     pub question-final : (second ≡ 0 → ⊥) → (room : ℕ) (r : Answers) (list : List ℕ)
         → (r .number ≡ second) × (r .count ≡ 0) × (list ≡ replicate room 0) → Staged rules question union facts room r list
     question-final h room r list g =
-        refused-first room (theAnswers union facts) second (checkNumber rules question union) _ r list
-        (question-refused rules question union p table first count read zero table01 second q asked h) h g
+        refused-first room (theAnswers union facts) second (unclashed rules question union facts room) _ r list
+        (question-stopped rules question union facts p table first count read table01 zero second q asked h) h g
 
-    pub all-drawn : second ≡ 0 → (room : ℕ) (r : Answers) (list : List ℕ)
-        → GivesFromUnion p (rulesIn table count) (queryOf q) (q .terms) union facts room r list
-        → Staged rules question union facts room r list
-    all-drawn zero′ room r list g =
-        let answers : answersOf (factsAsRead p sheetWidth facts) (unionAsRead p sheetWidth union) ≡ theAnswers union facts
-        = ap (λ t. answersOf (factsAsRead t sheetWidth facts) (unionAsRead t sheetWidth union)) table01 in
-        let terms : q .terms ≡ termsOf question = asked .query zero′ .terms-are ∙ sym (question-arity partners01 sheetWidth question) in
-        let number = all-checked rules question union p table first count read zero table01 second q asked zero′ _ refl in
-        gives-along room (answersOf (factsAsRead p sheetWidth facts) (unionAsRead p sheetWidth union))
-        (theAnswers union facts) _ _ r list answers
-        (ap₂ otherwise number (ap (otherwise (factsNumber facts)) (ap₂ (roomNumber room) terms answers))) g
+    module _ (zero′ : second ≡ 0) (helpers : ℕ) (clash : Bool) (in-use : HelpersRead p rules first helpers clash) (c : Bool)
+        (e : c ≡ (clash || clashing helpers (rolesOfAtoms (queryOf q .atoms)))) (room : ℕ) where
+      clashes-there : clashNumber c helpers (factsAsRead p sheetWidth facts) ≡ clashes rules question union facts room
+      clashes-there =
+          let fact = clash-with p rules table first count helpers clash read in-use zero (rolesOfAtoms (factsAsRead p sheetWidth facts)) in
+          sym (ap₂ otherwise
+          (clashes-are rules question union facts p table first count read table01 zero second q asked zero′ helpers clash in-use c e)
+          refl
+          ∙ both-clashes c _ c
+          ∙ ap (λ b. pick (c || b) 18 0) (sym (fact
+          ∙ ap (λ t. refuses18 (rulesAsWritten t sheetWidth rules) (rolesOfAtoms (factsAsRead t sheetWidth facts))) table01)))
 
-pub ruleset laws = (needs, rules-final, question-final, all-drawn)
+      pub all-drawn : (r : Answers) (list : List ℕ)
+          → GivesFromUnion p (rulesIn table count) (queryOf q) (q .terms) union facts helpers c room r list
+          → Staged rules question union facts room r list
+      all-drawn r list g =
+          let answers : answersOf (factsAsRead p sheetWidth facts) (unionAsRead p sheetWidth union) ≡ theAnswers union facts
+          = ap (λ t. answersOf (factsAsRead t sheetWidth facts) (unionAsRead t sheetWidth union)) table01 in
+          let terms : q .terms ≡ termsOf question = asked .query zero′ .terms-are ∙ sym (question-arity partners01 sheetWidth question) in
+          let number = union-checked rules question union facts p table first count read table01 zero second q asked zero′ in
+          gives-along room (answersOf (factsAsRead p sheetWidth facts) (unionAsRead p sheetWidth union))
+          (theAnswers union facts) _ _ r list answers
+          (ap₂ otherwise number (ap (otherwise (factsNumber facts))
+          (ap₂ otherwise clashes-there (ap₂ (roomNumber room) terms answers)))) g
+
+pub ruleset laws = (needs, helpers-within, question-small, rules-final, question-final, all-drawn)

@@ -12,13 +12,14 @@ use lib.ListN.{length, replicate}
 use Rattle.theory.specs.Lists.{all, pairwise}
 use Rattle.theory.specs.Union.{refuses7, refuses8, refuses9, refuses10, refuses11}
 use Rattle.theory.specs.Evaluation.{answersOf}
+use Rattle.theory.specs.Qualified.{rolesOfRules, rolesOfAtoms, refuses18}
 use Rattle.theory.specs.Writing.{writtenUnion}
 use Rattle.sheets.specs.AnswerList.{listBytes}
 use Rattle.sheets.specs.Packing.{packUnion, unionSheet}
 use Rattle.sheets.specs.Partners.{partners01}
 use Rattle.sheets.specs.Refusals.{refusalOf, numberOf}
-use Rattle.sheets.specs.Tests.{refuses1, refuses2, refuses3, refuses4, refuses5, refuses6, refuses12, refuses13}
-use Rattle.sheets.specs.Reading.{rulesAsRead, questionAsRead, unionAsRead, factsAsRead}
+use Rattle.sheets.specs.Tests.{refuses1, refuses2, refuses3, refuses4, refuses5, refuses6, refuses12, refuses13, refuses17}
+use Rattle.sheets.specs.Reading.{rulesAsWritten, rulesAsRead, questionAsRead, unionAsRead, factsAsRead}
 use Rattle.promises.specs.Checking.{checkNumber}
 use Rattle.promises.specs.Drawing.{Outcome, outcome}
 use Rattle.promises.specs.Writing.{WriteOutcome, writeOutcome}
@@ -283,7 +284,8 @@ writes (some w) rules question =
 unfoldable pub holds : Card → Bool
 unfolding comesTo prints writes textFor outcome numberOf refusalOf partners01 rulesAsRead questionAsRead unionAsRead factsAsRead answersOf
     listBytes
-    refuses1 refuses2 refuses3 refuses4 refuses5 refuses6 refuses7 refuses8 refuses9 refuses10 refuses11 refuses12 refuses13
+    refuses1 refuses2 refuses3 refuses4 refuses5 refuses6 refuses7 refuses8 refuses9 refuses10 refuses11 refuses12 refuses13 refuses17
+    refuses18 rulesAsWritten rolesOfRules rolesOfAtoms
 holds c =
     eqb (checkNumber (c .rules) (c .question) (c .union)) (c .checked)
     && comesTo c (outcome (c .rules) (c .question) (c .union) (c .facts) (c .room))

@@ -1,9 +1,10 @@
 -- Worked examples, computed with the definitions: Notation, then 01's own (Examples, from bytes Sheets and Cards), those of the source
--- documents (Closure) and those of 02's requests (Requests, OurUnions).
+-- documents (Closure) and those of 02's requests (Requests, Pairs, OurUnions).
 pub mod Notation
 pub mod Examples
 pub mod Closure
 pub mod Sheets
 pub mod Cards
 pub mod Requests
+pub mod Pairs
 pub mod OurUnions

@@ -11,15 +11,17 @@ use Rattle.theory.specs.Syntax.{UCQ}
 use Rattle.theory.specs.Renaming.{alike}
 use Rattle.theory.specs.Writing.{writtenUnion}
 use Rattle.words.specs.Limits.{mostMembers}
+use Rattle.theory.specs.Qualified.{rolesOfRules, rolesOfAtoms, refuses18}
 use Rattle.sheets.specs.Packing.{packUnion, unionSheet}
 use Rattle.sheets.specs.Partners.{partners01}
-use Rattle.sheets.specs.Reading.{rulesAsRead, questionAsRead}
+use Rattle.sheets.specs.Reading.{rulesAsWritten, rulesAsRead, questionAsRead}
 use Rattle.sheets.specs.Refusals.{refusalOf}
-use Rattle.sheets.specs.Tests.{refuses1, refuses2, refuses3, refuses4, refuses5}
+use Rattle.sheets.specs.Tests.{refuses1, refuses2, refuses3, refuses4, refuses5, refuses17}
 use Rattle.promises.specs.Writing.{writeOutcome}
 use Rattle.examples.specs.Examples.{Example, K3, K5, K6}
 use Rattle.examples.specs.Closure.{Closure, closures}
 use Rattle.examples.specs.Cards.{rules1, question1, itself, union1, question7, givesSheet}
+use Rattle.examples.specs.Pairs.{pump, helperAsked}
 
 -- ---- the members as 01 lists them
 
@@ -187,17 +189,19 @@ ourUnions =
           0x00 ∷ 0x02 ∷ [] ++ itself ++ askXZ ++ (0x80 ∷ 0x40 ∷ 0x00 ∷ 0x00 ∷ 0x00 ∷ 0x03 ∷ []) ++ Az
           ++ (0x40 ∷ 0x00 ∷ 0x00 ∷ 0x00 ∷ []) ++ askXZ ++ (0x80 ∷ 0x44 ∷ 0x00 ∷ 0x00 ∷ 0x00 ∷ 0x01 ∷ []) ++ Az;
     }
-    -- "a refusal leaves zeros in all that was lent for writing": 1 to 5, and each before 16
+    -- "a refusal leaves zeros in all that was lent for writing": 1 to 5, 17 and 18, and each before 16
     ∷ record { rules = (0x10 ∷ 0x00 ∷ 0x60 ∷ []); question = []; room = 40; number = 1; count = 0; written = [] }
-    ∷ record { rules = (0x30 ∷ 0x00 ∷ 0x60 ∷ 0x00 ∷ []); question = []; room = 40; number = 2; count = 0; written = [] }
+    ∷ record { rules = (0x50 ∷ 0x00 ∷ 0x60 ∷ 0x00 ∷ []); question = []; room = 40; number = 2; count = 0; written = [] }
+    ∷ record { rules = (0x30 ∷ 0x00 ∷ 0x60 ∷ 0x00 ∷ []); question = []; room = 40; number = 17; count = 0; written = [] }
     ∷ record { rules = rules1; question = []; room = 0; number = 3; count = 0; written = [] }
     ∷ record { rules = rules1; question = (0x11 ∷ 0x00 ∷ 0x00 ∷ 0x01 ∷ []) ++ Ax; room = 1; number = 4; count = 0; written = [] }
     ∷ record { rules = []; question = question7; room = 15; number = 5; count = 0; written = [] }
+    ∷ record { rules = pump; question = helperAsked; room = 0; number = 18; count = 0; written = [] }
     ∷ []
 
 unfoldable pub holds : WriteCase → Bool
 unfolding givesSheet writeOutcome writtenUnion packUnion unionSheet refusalOf partners01 rulesAsRead questionAsRead
-    refuses1 refuses2 refuses3 refuses4 refuses5
+    refuses1 refuses2 refuses3 refuses4 refuses5 refuses17 refuses18 rulesAsWritten rolesOfRules rolesOfAtoms
 holds c = givesSheet (c .number) (c .count) (c .written) (c .room) (writeOutcome (c .rules) (c .question) (c .room))
 
 pub our-unions-hold : all holds ourUnions ≡ true

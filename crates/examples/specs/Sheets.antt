@@ -9,15 +9,16 @@ use Rattle.theory.specs.Lists.{pick, all, pairwise}
 use Rattle.theory.specs.Refusals.{firstRefusal}
 use Rattle.theory.specs.Syntax.{Term, var, const, Atom, concept, role, Basic, named, has, hasInverse, Rule, conceptInclusion, roleInclusion}
 use Rattle.theory.specs.Syntax.{Query, Step, Member, UCQ, Fact, onAtoms}
+use Rattle.theory.specs.Qualified.{WrittenRule, plain, qualified}
 use Rattle.theory.specs.Union.{sameQuery}
 use Rattle.words.specs.Limits.{sheetWidth}
 use Rattle.sheets.specs.Bits.{numberAt}
-use Rattle.sheets.specs.Format.{rulesOf, factsOf, queryAt, memberCount, unionOf}
+use Rattle.sheets.specs.Format.{writtenOf, factsOf, queryAt, memberCount, unionOf}
 use Rattle.sheets.specs.Packing.{formOf, nameOf}
 use Rattle.sheets.specs.Partners.{partners01}
 use Rattle.sheets.specs.Refusals.{numberOf, ruleRefusals, questionRefusals, factRefusals}
-use Rattle.sheets.specs.Reading.{rulesAsRead, questionAsRead, unionAsRead, factsAsRead}
-use Rattle.sheets.specs.Tests.{refuses1, refuses2, refuses3, refuses4, refuses5, refuses6, refuses12, refuses13}
+use Rattle.sheets.specs.Reading.{rulesAsWritten, rulesAsRead, questionAsRead, unionAsRead, factsAsRead}
+use Rattle.sheets.specs.Tests.{refuses1, refuses2, refuses3, refuses4, refuses5, refuses6, refuses12, refuses13, refuses17}
 use Rattle.examples.specs.Notation.{x, y, ask, first, byRule}
 
 -- A sheet, what it says before and after reciprocal names are read, and the first of its own refusals, 0 if it meets none.
@@ -27,10 +28,11 @@ pub record Reading (X : Type 0) : Type 0 where
   pub asRead : X
   pub refusal : ℕ
 
--- A question has one more number: what its refusal would be, were reciprocal names not read. A union has the question's number of
--- answer terms, on which its refusal depends; and there is a union's member count by itself.
+-- Rules have one more list: the rules as read (02, T-04). A question has one more number: what its refusal would be, were reciprocal names
+-- not read. A union has the question's number of answer terms, on which its refusal depends; and there is a union's member count by
+-- itself.
 pub data Sample : Type 0 where
-  ofRules : Reading (List Rule) → Sample
+  ofRules : Reading (List WrittenRule) → List Rule → Sample
   ofQuestion : Reading Query → ℕ → Sample
   ofCount : List ℕ → ℕ → Sample
   ofUnion : Reading UCQ → ℕ → Sample
@@ -90,10 +92,10 @@ samples =
     -- K1: "each concept 1 is driven by something"
     ofRules (record {
       sheet = 0x10 ∷ 0x00 ∷ 0x60 ∷ 0x00 ∷ [];
-      says = conceptInclusion (named 1) (hasInverse 0) ∷ [];
-      asRead = conceptInclusion (named 1) (hasInverse 0) ∷ [];
+      says = plain (conceptInclusion (named 1) (hasInverse 0)) ∷ [];
+      asRead = plain (conceptInclusion (named 1) (hasInverse 0)) ∷ [];
       refusal = 0;
-    })
+    }) (conceptInclusion (named 1) (hasInverse 0) ∷ [])
     ∷ ofQuestion (record { sheet = sheet1; says = driven; asRead = driven; refusal = 0 }) 0
     ∷ ofUnion (record {
       sheet =
@@ -130,23 +132,59 @@ samples =
           ∷ 0x20 ∷ 0x00 ∷ 0xd0 ∷ 0x05
           ∷ [];
       says =
-          conceptInclusion (hasInverse 4095) (hasInverse 4095)
-          ∷ conceptInclusion (has 0x123) (hasInverse 0xabc)
-          ∷ roleInclusion 4095 true 4095
-          ∷ conceptInclusion (has 1) (named 4095)
-          ∷ roleInclusion 1 false 2
-          ∷ roleInclusion 3 true 5
+          plain (conceptInclusion (hasInverse 4095) (hasInverse 4095))
+          ∷ plain (conceptInclusion (has 0x123) (hasInverse 0xabc))
+          ∷ plain (roleInclusion 4095 true 4095)
+          ∷ plain (conceptInclusion (has 1) (named 4095))
+          ∷ plain (roleInclusion 1 false 2)
+          ∷ plain (roleInclusion 3 true 5)
           ∷ [];
       asRead =
-          conceptInclusion (hasInverse 4095) (hasInverse 4095)
-          ∷ conceptInclusion (has 0x123) (hasInverse 0xabc)
-          ∷ roleInclusion 4095 true 4095
-          ∷ conceptInclusion (hasInverse 0) (named 4095)
-          ∷ roleInclusion 0 true 2
-          ∷ roleInclusion 2 true 4
+          plain (conceptInclusion (hasInverse 4095) (hasInverse 4095))
+          ∷ plain (conceptInclusion (has 0x123) (hasInverse 0xabc))
+          ∷ plain (roleInclusion 4095 true 4095)
+          ∷ plain (conceptInclusion (hasInverse 0) (named 4095))
+          ∷ plain (roleInclusion 0 true 2)
+          ∷ plain (roleInclusion 2 true 4)
           ∷ [];
       refusal = 0;
     })
+    (conceptInclusion (hasInverse 4095) (hasInverse 4095)
+    ∷ conceptInclusion (has 0x123) (hasInverse 0xabc)
+    ∷ roleInclusion 4095 true 4095
+    ∷ conceptInclusion (hasInverse 0) (named 4095)
+    ∷ roleInclusion 0 true 2
+    ∷ roleInclusion 2 true 4
+    ∷ [])
+    -- two pairs, the second with a higher partner as its role, and a rule between them: helpers 4,095 and 4,094
+    ∷ ofRules (record {
+      sheet =
+          0x3b ∷ 0xff ∷ 0xef ∷ 0xfe
+          ∷ 0x43 ∷ 0xff ∷ 0xc0 ∷ 0x00
+          ∷ 0x10 ∷ 0x00 ∷ 0x60 ∷ 0x00
+          ∷ 0x34 ∷ 0x00 ∷ 0x50 ∷ 0x03
+          ∷ 0x40 ∷ 0x48 ∷ 0xc0 ∷ 0x00
+          ∷ [];
+      says =
+          qualified (hasInverse 4095) true 4094 4095
+          ∷ plain (conceptInclusion (named 1) (hasInverse 0))
+          ∷ qualified (has 1) false 3 0x123
+          ∷ [];
+      asRead =
+          qualified (hasInverse 4095) true 4094 4095
+          ∷ plain (conceptInclusion (named 1) (hasInverse 0))
+          ∷ qualified (hasInverse 0) true 2 0x123
+          ∷ [];
+      refusal = 0;
+    })
+    (conceptInclusion (hasInverse 4095) (hasInverse 4095)
+    ∷ roleInclusion 4095 false 4094
+    ∷ conceptInclusion (has 4095) (named 4095)
+    ∷ conceptInclusion (named 1) (hasInverse 0)
+    ∷ conceptInclusion (hasInverse 0) (hasInverse 4094)
+    ∷ roleInclusion 4094 false 2
+    ∷ conceptInclusion (has 4094) (named 0x123)
+    ∷ [])
     ∷ ofQuestion (record {
       sheet = largest;
       says = largestSays;
@@ -196,6 +234,13 @@ sameRule (conceptInclusion l r) (roleInclusion P e Q) = false
 sameRule (roleInclusion P e Q) (conceptInclusion l r) = false
 sameRule (roleInclusion P e Q) (roleInclusion P′ e′ Q′) = eqb P P′ && not (xor e e′) && eqb Q Q′
 
+unfoldable pub sameWritten : WrittenRule → WrittenRule → Bool
+unfolding sameRule sameBasic xor
+sameWritten (plain r) (plain r′) = sameRule r r′
+sameWritten (plain r) (qualified l e P F) = false
+sameWritten (qualified l e P F) (plain r) = false
+sameWritten (qualified l e P F) (qualified l′ e′ P′ F′) = sameBasic l l′ && not (xor e e′) && eqb P P′ && eqb F F′
+
 unfoldable pub sameStep : Step → Step → Bool
 sameStep s t = eqb (s .kind) (t .kind) && eqb (s .parent) (t .parent) && eqb (s .atom) (t .atom) && eqb (s .other) (t .other)
 
@@ -208,12 +253,14 @@ unfoldable pub matches : {X : Type 0} → (X → X → Bool) → Reading X → X
 matches same r says asRead refusal = same says (r .says) && same asRead (r .asRead) && eqb refusal (r .refusal)
 
 unfoldable pub holds : Sample → Bool
-unfolding numberAt matches pairwise sameRule sameMember onAtoms partners01 numberOf firstRefusal
-    rulesOf rulesAsRead ruleRefusals refuses1 refuses2 queryAt questionAsRead questionRefusals refuses3 refuses4 refuses5
+unfolding numberAt matches pairwise sameRule sameWritten sameMember onAtoms partners01 numberOf firstRefusal
+    writtenOf rulesAsWritten rulesAsRead ruleRefusals refuses1 refuses2 refuses17 queryAt questionAsRead questionRefusals refuses3
+    refuses4 refuses5
     unionOf unionAsRead refuses6 factsOf factsAsRead factRefusals refuses12 refuses13
-holds (ofRules r) =
-    matches (pairwise sameRule) r (rulesOf (r .sheet)) (rulesAsRead partners01 sheetWidth (r .sheet))
-    (numberOf (firstRefusal (ruleRefusals (r .sheet))))
+holds (ofRules r read) =
+    matches (pairwise sameWritten) r (writtenOf (r .sheet)) (rulesAsWritten partners01 sheetWidth (r .sheet))
+    (numberOf (firstRefusal (ruleRefusals partners01 sheetWidth (r .sheet))))
+    && pairwise sameRule (rulesAsRead partners01 sheetWidth (r .sheet)) read
 holds (ofQuestion r unread) =
     let q : Query = queryAt sheetWidth (r .sheet) 0 in
     matches sameQuery r q (questionAsRead partners01 sheetWidth (r .sheet))

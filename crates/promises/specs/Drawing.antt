@@ -8,12 +8,12 @@ use mathlib.Core.List.{List, [], _∷_, _++_}
 use lib.Dec.{ltb}
 use lib.ListN.{length, take, drop, replicate}
 use Rattle.theory.specs.Lists.{_∈_, guard}
-use Rattle.theory.specs.Chase.{SecondReader}
+use Rattle.theory.specs.QualifiedChase.{SecondReaderAsWritten}
 use Rattle.theory.specs.Evaluation.{Before, answersOf}
 use Rattle.words.specs.Limits.{objectBound}
 use Rattle.sheets.specs.AnswerList.{tupleSize, tupleBytes, listBytes}
 use Rattle.sheets.specs.Refusals.{Sheets, drawing}
-use Rattle.promises.specs.TheSheets.{theRules, theQuestion, theUnion, theFacts, theRefusal, theConditions, SoundFacts}
+use Rattle.promises.specs.TheSheets.{theWrittenRules, theQuestion, theUnion, theFacts, theRefusal, theConditions, SoundFacts}
 use Rattle.promises.specs.Checking.{SoundAndAccepted}
 
 -- "In lists, counts and refusals, 'answers' are what the first reader finds": ascending, each once.
@@ -60,7 +60,8 @@ module _ (rules question union facts : List ℕ) (room : ℕ) where
   abbrev pub allSheets : Sheets
   allSheets = record { rules = rules; question = question; union = union; facts = facts }
 
-  -- "Checking a union uses 1 to 11, drawing answers all": the first of 1 to 13 that applies, by the one list of refusals, and else 14
+  -- "Checking a union uses 1 to 11, drawing answers all": the first of 1, 2, 17, 3 to 13 and 18 that applies, by the one list of refusals,
+  -- and else 14
   abbrev pub refusalToDraw : Option ℕ
   refusalToDraw = orElse (theRefusal drawing allSheets) (guard (ltb room (bytesNeeded question union facts)) 14)
 
@@ -80,13 +81,15 @@ module _ (rules question union facts : List ℕ) (room : ℕ) where
     pub count-is : count ≡ outcome .count
     pub list-is : list ≡ outcome .list
     -- demand 1: 0 exactly for "a call with sound sheets, an accepted union and a long enough list"
-    pub zero : (number ≡ 0) ↔ (SoundAndAccepted rules question union × SoundFacts facts × (bytesNeeded question union facts ≤ room))
+    pub zero : (number ≡ 0) ↔ (SoundAndAccepted rules question union × SoundFacts rules facts × (bytesNeeded question union facts ≤ room))
     -- 14 exactly when all that is wrong is the length of the list
-    pub short : (number ≡ 14) ↔ (SoundAndAccepted rules question union × SoundFacts facts × (room < bytesNeeded question union facts))
+    pub short : (number ≡ 14) ↔ (SoundAndAccepted rules question union × SoundFacts rules facts × (room < bytesNeeded question union facts))
     -- demand 3: "the list that a call draws has them all and no others": a tuple of registered objects is in the list exactly when the
-    -- second reader finds it: it holds no lost tag (02, T-01), and the question has it in some round from the facts under the rules
+    -- second reader finds it: it holds no lost tag (02, T-01), and the question has it in some round from the facts under the rules as
+    -- written, a pair of records giving each bearer one unnamed thing that has both role and filler (02, T-04)
     pub readers : number ≡ 0 → (tuple : List ℕ) → Registered tuple
-        → Listed list count (termsOf question) tuple ↔ SecondReader (theRules rules) (theQuestion question) (theFacts facts) tuple
+        → Listed list count (termsOf question) tuple
+        ↔ SecondReaderAsWritten (theWrittenRules rules) (theQuestion question) (theFacts facts) tuple
     -- "ascending and each once": of two places the earlier has the lesser tuple
     pub ascending : number ≡ 0 → (j k : ℕ) (t u : List ℕ) → Registered t → Registered u → j < k → k < count
         → StandsAt list (termsOf question) j t → StandsAt list (termsOf question) k u → Before t u

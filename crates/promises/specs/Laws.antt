@@ -1,6 +1,7 @@
 -- The promises in 01's words, and what they rest on.
 pub mod Conditions
 pub mod Checking
+pub mod Apart
 pub mod CheckPromises
 pub mod AnswerBytes
 pub mod Drawing

@@ -5,13 +5,18 @@ use Prim.Native.Nat.{ℕ}
 use mathlib.Core.Option.{Option, none}
 use mathlib.Core.List.{List, []}
 use Rattle.theory.specs.Syntax.{Rule, Query, UCQ, Fact}
+use Rattle.theory.specs.Qualified.{WrittenRule}
 use Rattle.words.specs.Limits.{sheetWidth}
 use Rattle.sheets.specs.Partners.{partners01}
-use Rattle.sheets.specs.Reading.{rulesAsRead, questionAsRead, unionAsRead, factsAsRead}
+use Rattle.sheets.specs.Reading.{rulesAsWritten, rulesAsRead, questionAsRead, unionAsRead, factsAsRead}
 use Rattle.sheets.specs.Showing.{memberPart, Placed}
-use Rattle.sheets.specs.Refusals.{Sheets, Which, onlyFacts, refusals, conditionsFor, refusalOf}
+use Rattle.sheets.specs.Refusals.{Sheets, Which, rulesAndFacts, refusals, conditionsFor, refusalOf}
 
 -- ---- what the sheets say, as read
+
+-- rules as written, which the second reader follows, and the rules that they are read as, which steps go by (02, T-04)
+abbrev pub theWrittenRules : List ℕ → List WrittenRule
+theWrittenRules sheet = rulesAsWritten partners01 sheetWidth sheet
 
 abbrev pub theRules : List ℕ → List Rule
 theRules sheet = rulesAsRead partners01 sheetWidth sheet
@@ -36,9 +41,10 @@ NotRefused takes sheets = theRefusal takes sheets ≡ none
 abbrev pub theConditions : Which → Sheets → List {1} (ℕ × Type 0)
 theConditions takes sheets = conditionsFor partners01 sheetWidth takes sheets (refusals partners01 sheetWidth)
 
--- facts are sound "if neither 12 nor 13" applies
-abbrev pub SoundFacts : List ℕ → Type 0
-SoundFacts sheet = NotRefused onlyFacts record { rules = []; question = []; union = []; facts = sheet }
+-- Facts are sound "if neither 12 nor 13" applies, "clashes of role numbers between sheets included": for these rules, no helper that they
+-- use stands as a role in a fact (18).
+abbrev pub SoundFacts : List ℕ → List ℕ → Type 0
+SoundFacts rules facts = NotRefused rulesAndFacts record { rules = rules; question = []; union = []; facts = facts }
 
 -- ---- showing a member: the part of the sheet that holds its question, and where that part is
 

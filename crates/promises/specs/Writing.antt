@@ -38,7 +38,7 @@ module _ (rules question : List ℕ) where
   abbrev pub twoSheets : Sheets
   twoSheets = record { rules = rules; question = question; union = []; facts = [] }
 
-  -- the sheets meet none of 1 to 5
+  -- the sheets meet none of 1, 2, 17, 3 to 5 and 18
   abbrev pub SoundToWrite : Type 0
   SoundToWrite = NotRefused writing twoSheets
 
@@ -55,8 +55,8 @@ module _ (rules question : List ℕ) where
   unionBytes = length (packUnion sheetWidth theWritten)
 
   module _ (room : ℕ) where
-    -- "after 5 in that order": the first of 1 to 5 that applies, by the one list of refusals; else 15; and else 16, "the lent sheet is
-    -- shorter than the union"
+    -- "after 5 in that order", and after 18 (02, T-04): the first of 1, 2, 17, 3 to 5 and 18 that applies, by the one list of refusals;
+    -- else 15; and else 16, "the lent sheet is shorter than the union"
     abbrev pub refusalToWrite : Option ℕ
     refusalToWrite =
         orElse (orElse (theRefusal writing twoSheets) (guard (ltb mostMembers (length theWritten)) 15)) (guard (ltb room unionBytes) 16)

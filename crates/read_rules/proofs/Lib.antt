@@ -1,2 +1,3 @@
-pub mod RuleLaws
 pub mod RuleSheetLaws
+pub mod FillLaws
+pub mod RefusalLaws

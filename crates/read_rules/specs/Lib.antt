@@ -1,2 +1,3 @@
 pub mod RuleWords
 pub mod RuleLaws
+pub mod Filling

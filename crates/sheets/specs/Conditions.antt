@@ -1,18 +1,20 @@
--- 01, "What the desk turns back": the conditions of refusals 1 to 6, 12 and 13, in 01's words (those of 7 to 11 are in the crate
--- `theory`, Union). Beside each stands its test, in Tests; Laws/ has that the test passes exactly where the condition holds. `at` is the
--- byte at which a question begins, w the width of an object's number.
+-- 01, "What the desk turns back", and 02: the conditions of refusals 1 to 6, 12, 13 and 17, in the papers' words (those of 7 to 11 are in
+-- the crate `theory`, Union, that of 18 in Qualified). Beside each stands its test, in Tests; Laws/ has that the test passes exactly where
+-- the condition holds. `at` is the byte at which a question begins, w the width of an object's number.
 use mathlib.Core.Path.{_≡_}
 use mathlib.Core.Logic.{_⊎_}
-use Prim.Native.Nat.{ℕ, _+_, _%_, _^_, _≤_, _<_}
+use Prim.Native.Nat.{ℕ, suc, _+_, _%_, _^_, _≤_, _<_}
 use mathlib.Core.List.{List}
 use lib.ListN.{length}
 use Rattle.theory.specs.Lists.{_∈_, At}
 use Rattle.theory.specs.Syntax.{Term, var, Atom, Query, places, terms}
-use Rattle.words.specs.Limits.{variableBound, mostTerms, mostAtoms, mostMembers, ruleBytes, recordBytes, mostRuleBytes, mostFactBytes}
-use Rattle.words.specs.Records.{ruleKind, leftForm, rightForm, atomKind, atomZero, atomSecond, factKind, factZeros, factSecond}
+use Rattle.words.specs.Limits.{variableBound, mostRules, mostTerms, mostAtoms, mostMembers, ruleBytes, recordBytes, mostRuleBytes}
+use Rattle.words.specs.Limits.{mostFactBytes}
+use Rattle.words.specs.Records.{ruleKind, leftForm, rightForm, rightName, atomKind, atomZero, atomSecond, factKind, factZeros, factSecond}
 use Rattle.sheets.specs.Format.{ruleRecords, factRecords, termCount, atomCount, questionLength, answerRecords, atomRecords, queryAt}
 use Rattle.sheets.specs.Format.{memberCount, memberStart, questionStart}
 use Rattle.sheets.specs.Partners.{queryAsRead}
+use Rattle.sheets.specs.Reading.{rulesAsRead}
 
 -- ---- rules
 
@@ -24,9 +26,34 @@ Meets1 s = (¬ (length s % ruleBytes ≡ 0)) ⊎ (mostRuleBytes < length s)
 abbrev pub Named : ℕ → Type 0
 Named x = ((ruleKind x ≡ 1) × (leftForm x ≤ 2) × (rightForm x ≤ 2)) ⊎ ((ruleKind x ≡ 2) × (leftForm x ≡ 0) × (rightForm x ≤ 1))
 
+-- kinds 3 and 4, of which 02, T-04, says that "2 doesn't judge these kinds"
+abbrev pub Paired : ℕ → Type 0
+Paired x = (ruleKind x ≡ 3) ⊎ (ruleKind x ≡ 4)
+
 -- 2: "A rule has a kind or form not named above."
 abbrev pub Meets2 : List ℕ → Type 0
-Meets2 s = (x : ℕ) × (x ∈ ruleRecords s) × (¬ Named x)
+Meets2 s = (x : ℕ) × (x ∈ ruleRecords s) × (¬ Paired x) × (¬ Named x)
+
+-- "a kind 3 without its kind 4": no record of kind 4 stands right after it
+abbrev pub Lone3 : List ℕ → Type 0
+Lone3 records = (i x : ℕ) × At records i x × (ruleKind x ≡ 3) × (¬ ((y : ℕ) × At records (suc i) y × (ruleKind y ≡ 4)))
+
+-- "a kind 4 by itself": no record of kind 3 stands right before it
+abbrev pub Lone4 : List ℕ → Type 0
+Lone4 records = (i y : ℕ) × At records i y × (ruleKind y ≡ 4) × (¬ ((j x : ℕ) × (i ≡ suc j) × At records j x × (ruleKind x ≡ 3)))
+
+-- "a form or zero field in either that isn't as said": kind 3 has "kind 1's left side, and as right side a role form 1 or 2", kind 4 "left
+-- form 0, the filler concept as left number and zeros on the right"
+abbrev pub NotAsSaid : ℕ → Type 0
+NotAsSaid x =
+    ((ruleKind x ≡ 3) × (¬ ((leftForm x ≤ 2) × ((rightForm x ≡ 1) ⊎ (rightForm x ≡ 2)))))
+    ⊎ ((ruleKind x ≡ 4) × (¬ ((leftForm x ≡ 0) × (rightForm x ≡ 0) × (rightName x ≡ 0))))
+
+-- 17: all of these, "or over 512 rules as read"
+abbrev pub Meets17 : List ℕ → ℕ → List ℕ → Type 0
+Meets17 partners w s =
+    (Lone3 (ruleRecords s) ⊎ Lone4 (ruleRecords s) ⊎ ((x : ℕ) × (x ∈ ruleRecords s) × NotAsSaid x))
+    ⊎ (mostRules < length (rulesAsRead partners w s))
 
 -- ---- a question
 

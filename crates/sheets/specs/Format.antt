@@ -1,12 +1,15 @@
 -- 01's sheets taken apart into records, before reciprocal names are read; what a record says is in the crate `words`
 -- (specs/Records.antt). w is the width of an object's number.
 use Prim.Native.Nat.{ℕ, zero, suc, _+_, _*_, _/_, _%_}
-use mathlib.Core.List.{List, map, flatMap}
+use mathlib.Core.Bool.{_&&_}
+use mathlib.Core.List.{List, [], _∷_, _++_, map}
+use lib.Dec.{eqb}
 use lib.ListN.{length, getD}
-use Rattle.theory.specs.Lists.{toList, numbers}
-use Rattle.theory.specs.Syntax.{Rule, Query, Member, UCQ, Fact}
+use Rattle.theory.specs.Lists.{pick, count, toList, numbers}
+use Rattle.theory.specs.Syntax.{Query, Member, UCQ, Fact}
+use Rattle.theory.specs.Qualified.{WrittenRule, plain}
 use Rattle.words.specs.Limits.{ruleBytes, stepBytes, countBytes, answerBytes, recordBytes}
-use Rattle.words.specs.Records.{ruleOf, termOf, atomOf, factOf, stepOf}
+use Rattle.words.specs.Records.{ruleKind, ruleOf, qualifiedIn, termOf, atomOf, factOf, stepOf}
 use Rattle.sheets.specs.Bits.{numberAt}
 
 -- ---- records of one size, as numbers
@@ -25,10 +28,31 @@ sheetRecords size s = recordsFrom size s 0 (length s / size)
 abbrev pub ruleRecords : List ℕ → List ℕ
 ruleRecords s = sheetRecords ruleBytes s
 
--- what the records say, in order; one that is no rule says nothing, and 2 refuses the sheet
-unfoldable pub rulesOf : List ℕ → List Rule
-unfolding ruleOf recordsFrom toList flatMap
-rulesOf s = flatMap (λ x. toList (ruleOf x)) (ruleRecords s)
+-- a record of kind 1 or 2 says a rule by itself
+unfoldable pub saidAlone : ℕ → List WrittenRule
+unfolding ruleOf toList
+saidAlone x = map plain (toList (ruleOf x))
+
+-- one of kind 3 does with the kind 4 right after it (02, T-04), which says nothing more; `rest` are the records after x
+unfoldable pub saidBy : ℕ → List ℕ → List WrittenRule
+unfolding saidAlone qualifiedIn
+saidBy x [] = saidAlone x
+saidBy x (y ∷ rest) = pick (eqb (ruleKind x) 3 && eqb (ruleKind y) 4) (qualifiedIn x y ∷ []) (saidAlone x)
+
+-- what records say, in order; one that is no rule says nothing, and 2 or 17 refuses the sheet
+unfoldable pub writtenIn : List ℕ → List WrittenRule
+unfolding saidBy
+writtenIn [] = []
+writtenIn (x ∷ rest) = saidBy x rest ++ writtenIn rest
+
+unfoldable pub writtenOf : List ℕ → List WrittenRule
+unfolding writtenIn recordsFrom
+writtenOf s = writtenIn (ruleRecords s)
+
+-- how many pairs there are, where each kind 3 has its kind 4
+unfoldable pub pairsIn : List ℕ → ℕ
+unfolding count
+pairsIn records = count (λ x. eqb (ruleKind x) 3) records
 
 -- ---- facts
 

@@ -3,6 +3,8 @@ pub mod Tests
 pub mod RecordLoops
 pub mod PartnerLaws
 pub mod RuleRefusals
+pub mod PairRefusals
+pub mod RuleSheets
 pub mod QuestionRefusals
 pub mod UnionRefusals
 pub mod UnionLengths
@@ -12,9 +14,11 @@ pub mod Numbers
 pub mod PackingBytes
 pub mod PackingNumbers
 pub mod PackingSheets
+pub mod PackingRules
 pub mod PackingQueries
 pub mod PackingUnions
 pub mod ObjectRange
 pub mod TupleOrder
 pub mod StepsInRange
+pub mod RulesInRange
 pub mod WrittenUnion

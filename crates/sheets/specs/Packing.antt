@@ -2,11 +2,13 @@
 -- together here; w is the width of an object's number, as there.
 use mathlib.Core.Path.{_≡_}
 use Prim.Native.Nat.{ℕ, zero, suc, _+_, _-_, _*_, _/_, _%_, _^_, _≤_, _<_}
+use mathlib.Core.Bool.{Bool}
 use mathlib.Core.List.{List, [], _∷_, _++_, map, flatMap}
 use lib.ListN.{length, replicate}
 use Rattle.theory.specs.Lists.{_∈_, pick}
 use Rattle.theory.specs.Syntax.{Term, var, const, Atom, concept, role, Basic, named, has, hasInverse, Rule, conceptInclusion, roleInclusion}
 use Rattle.theory.specs.Syntax.{Query, Step, Member, UCQ, Fact}
+use Rattle.theory.specs.Qualified.{WrittenRule, plain, qualified, rulesRead}
 use Rattle.words.specs.Limits.{variableBound, nameBound, mostRules, mostTerms, mostAtoms, mostMembers, mostFacts, stepBytes, countBytes}
 use Rattle.words.specs.Limits.{answerBytes, recordBytes}
 
@@ -51,9 +53,25 @@ ruleFields (roleInclusion P exchanged Q) = (4, 2) ∷ (2, 0) ∷ (12, P) ∷ (2,
 abbrev pub ruleNumber : Rule → ℕ
 ruleNumber r = fieldsNumber (ruleFields r)
 
-unfoldable pub packRules : List Rule → List ℕ
-unfolding packRecords fieldsNumber
-packRules rules = packRecords 4 (map ruleNumber rules)
+-- 02, T-04: "A rule of kind 3 has kind 1's left side, and as right side a role form 1 or 2": 2, "something has the role to it", where
+-- exchanged
+abbrev pub qualifiedFields : Basic → Bool → ℕ → List (ℕ × ℕ)
+qualifiedFields left exchanged P = (4, 3) ∷ (2, formOf left) ∷ (12, nameOf left) ∷ (2, pick exchanged 2 1) ∷ (12, P) ∷ []
+
+-- "a record of kind 4 with left form 0, the filler concept as left number and zeros on the right"
+abbrev pub fillerFields : ℕ → List (ℕ × ℕ)
+fillerFields filler = (4, 4) ∷ (2, 0) ∷ (12, filler) ∷ (2, 0) ∷ (12, 0) ∷ []
+
+-- the records of a rule as written: one for a rule of 01's, or a kind 3 and right after it its kind 4
+abbrev pub writtenNumbers : WrittenRule → List ℕ
+writtenNumbers (plain rule) = ruleNumber rule ∷ []
+writtenNumbers (qualified left exchanged P filler) =
+    fieldsNumber (qualifiedFields left exchanged P) ∷ fieldsNumber (fillerFields filler) ∷ []
+
+-- the sheet: the records of each rule, in order
+unfoldable pub packRules : List WrittenRule → List ℕ
+unfolding packRecords fieldsNumber flatMap
+packRules ws = packRecords 4 (flatMap writtenNumbers ws)
 
 -- ---- terms, atoms and facts
 
@@ -137,9 +155,18 @@ abbrev pub RuleInRange : Rule → Type 0
 RuleInRange (conceptInclusion left right) = IsName (nameOf left) × IsName (nameOf right)
 RuleInRange (roleInclusion P exchanged Q) = IsName P × IsName Q
 
+abbrev pub WrittenInRange : WrittenRule → Type 0
+WrittenInRange (plain rule) = RuleInRange rule
+WrittenInRange (qualified left exchanged P filler) = IsName (nameOf left) × IsName P × IsName filler
+
 -- "A sheet has 0 to 512 rules."
 abbrev pub RulesInRange : List Rule → Type 0
 RulesInRange rules = (length rules ≤ mostRules) × All RuleInRange rules
+
+-- 02, T-04: "The limit of 512 and the rule indices count rules as read." There are no more records than these: a pair is two records and
+-- is read as three rules.
+abbrev pub WrittenRulesInRange : List WrittenRule → Type 0
+WrittenRulesInRange ws = (length (rulesRead ws) ≤ mostRules) × All WrittenInRange ws
 
 -- "Variables are 0 to 31, objects 0 to 65,535."
 abbrev pub TermInRange : ℕ → Term → Type 0

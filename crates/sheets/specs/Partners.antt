@@ -9,6 +9,7 @@ use lib.ListN.{getD}
 use Rattle.theory.specs.Lists.{pick}
 use Rattle.theory.specs.Syntax.{Atom, concept, role, Basic, named, has, hasInverse, Rule, conceptInclusion, roleInclusion, Query, Member}
 use Rattle.theory.specs.Syntax.{oriented}
+use Rattle.theory.specs.Qualified.{WrittenRule, plain, qualified}
 
 -- "A constant table of 16 role partners: 0 and 1 (drives, driven by), 2 and 3 (feeds, fed by), 4 and 5 (part of, has part), 6 and 7
 -- (opens, opened by); 8 to 15 are entered as their own"
@@ -40,6 +41,12 @@ module _ (partners : List ℕ) where
   unfolding basicAsRead xor
   ruleAsRead (conceptInclusion left right) = conceptInclusion (basicAsRead left) (basicAsRead right)
   ruleAsRead (roleInclusion P exchanged Q) = roleInclusion (lower P) (xor exchanged (xor (isHigher P) (isHigher Q))) (lower Q)
+
+  -- 02, T-04: "its role's partner read first", which may turn the direction
+  unfoldable pub writtenAsRead : WrittenRule → WrittenRule
+  unfolding ruleAsRead basicAsRead xor
+  writtenAsRead (plain rule) = plain (ruleAsRead rule)
+  writtenAsRead (qualified left exchanged P filler) = qualified (basicAsRead left) (xor exchanged (isHigher P)) (lower P) filler
 
   unfoldable pub queryAsRead : Query → Query
   unfolding atomAsRead

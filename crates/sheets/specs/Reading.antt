@@ -2,13 +2,19 @@
 use Prim.Native.Nat.{ℕ}
 use mathlib.Core.List.{List, map}
 use Rattle.theory.specs.Syntax.{Rule, Query, UCQ, Fact}
-use Rattle.sheets.specs.Format.{rulesOf, factsOf, queryAt, unionOf}
-use Rattle.sheets.specs.Partners.{atomAsRead, ruleAsRead, queryAsRead, memberAsRead}
+use Rattle.theory.specs.Qualified.{WrittenRule, rulesRead}
+use Rattle.sheets.specs.Format.{writtenOf, factsOf, queryAt, unionOf}
+use Rattle.sheets.specs.Partners.{atomAsRead, writtenAsRead, queryAsRead, memberAsRead}
 
 module _ (partners : List ℕ) (w : ℕ) where
+  -- rules as written, with reciprocal names read, and the rules that they are read as (02, T-04)
+  unfoldable pub rulesAsWritten : List ℕ → List WrittenRule
+  unfolding writtenOf writtenAsRead
+  rulesAsWritten s = map (writtenAsRead partners) (writtenOf s)
+
   unfoldable pub rulesAsRead : List ℕ → List Rule
-  unfolding rulesOf ruleAsRead
-  rulesAsRead s = map (ruleAsRead partners) (rulesOf s)
+  unfolding rulesAsWritten rulesRead
+  rulesAsRead s = rulesRead (rulesAsWritten s)
 
   unfoldable pub questionAsRead : List ℕ → Query
   unfolding queryAt queryAsRead

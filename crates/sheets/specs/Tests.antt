@@ -1,4 +1,5 @@
--- 01, "What the desk turns back": refusals 1 to 6, 12 and 13, as tests on the sheets (7 to 11 are in the crate `theory`, Union).
+-- 01, "What the desk turns back", and 02: refusals 1 to 6, 12, 13 and 17, as tests on the sheets (7 to 11 are in the crate `theory`, Union,
+-- and 18 is in Qualified).
 use Prim.Native.Nat.{ℕ, _+_, _/_, _%_, _^_}
 use mathlib.Core.Bool.{Bool, true, false, not, _&&_, _||_}
 use mathlib.Core.List.{List, [], _∷_}
@@ -6,23 +7,46 @@ use lib.Dec.{eqb, leb, ltb}
 use lib.ListN.{length}
 use Rattle.theory.specs.Lists.{pick, any, all, numbers}
 use Rattle.theory.specs.Syntax.{Term, var, const, Atom, Query, places, sameTerm, sameAtom}
-use Rattle.words.specs.Limits.{variableBound, mostTerms, mostAtoms, mostMembers, ruleBytes, recordBytes, mostRuleBytes, mostFactBytes}
-use Rattle.words.specs.Records.{isRule, atomKind, atomZero, atomFirst, atomSecond, factKind, factZeros, factSecond}
+use Rattle.words.specs.Limits.{variableBound, mostRules, mostTerms, mostAtoms, mostMembers, ruleBytes, recordBytes, mostRuleBytes}
+use Rattle.words.specs.Limits.{mostFactBytes}
+use Rattle.words.specs.Records.{ruleKind, isRule, isPaired, pairForms, atomKind, atomZero, atomFirst, atomSecond, factKind, factZeros}
+use Rattle.words.specs.Records.{factSecond}
 use Rattle.sheets.specs.Bits.{numberAt}
 use Rattle.sheets.specs.Format.{recordsFrom, ruleRecords, factRecords, termCount, atomCount, questionLength, answerRecords}
 use Rattle.sheets.specs.Format.{atomRecords, queryAt, memberCount, memberStart, questionStart}
 use Rattle.sheets.specs.Partners.{queryAsRead}
+use Rattle.sheets.specs.Reading.{rulesAsRead}
 
--- ---- 1 and 2: rules
+-- ---- 1, 2 and 17: rules
 
 -- 1: "The rule sheet's length is no multiple of 4 or exceeds 2,048 bytes."
 unfoldable pub refuses1 : List ℕ → Bool
 refuses1 s = not (eqb (length s % ruleBytes) 0) || ltb mostRuleBytes (length s)
 
--- 2: "A rule has a kind or form not named above."
+-- 2: "A rule has a kind or form not named above"; of kinds 3 and 4, "2 doesn't judge these kinds"
+unfoldable pub passes2 : ℕ → Bool
+unfolding isPaired isRule
+passes2 x = isPaired x || isRule x
+
 unfoldable pub refuses2 : List ℕ → Bool
-unfolding all isRule recordsFrom
-refuses2 s = not (all isRule (ruleRecords s))
+unfolding all passes2 recordsFrom
+refuses2 s = not (all passes2 (ruleRecords s))
+
+-- a record is of kind 4 exactly where one waits for it, the one before it being of kind 3; and its forms are as said
+unfoldable pub follows : Bool → ℕ → Bool
+unfolding pairForms
+follows waits x = pick waits (eqb (ruleKind x) 4) (not (eqb (ruleKind x) 4)) && pairForms x
+
+unfoldable pub pairsSound : Bool → List ℕ → Bool
+unfolding follows
+pairsSound waits [] = not waits
+pairsSound waits (x ∷ rest) = follows waits x && pairsSound (eqb (ruleKind x) 3) rest
+
+-- 17: "a kind 3 without its kind 4, a kind 4 by itself, a form or zero field in either that isn't as said (2 doesn't judge these kinds),
+-- or over 512 rules as read"
+unfoldable pub refuses17 : List ℕ → ℕ → List ℕ → Bool
+unfolding pairsSound rulesAsRead recordsFrom
+refuses17 partners w s = not (pairsSound false (ruleRecords s)) || ltb mostRules (length (rulesAsRead partners w s))
 
 -- ---- 3 to 5: a question
 

@@ -1,4 +1,5 @@
--- 01, "Rounds and matches": the chase rounds, the answers of a query in a round, and the two readers of demand 3.
+-- 01, "Rounds and matches": the chase rounds over rules as read, the answers of a query in a round, and the two readers of demand 3. The
+-- second follows rules as written since T-04 (QualifiedChase); here it is over rules as read, and the main theorem is about that.
 use mathlib.Core.Path.{_≡_}
 use Prim.Native.Nat.{ℕ, zero, suc}
 use mathlib.Core.Logic.{_⊎_}
@@ -42,6 +43,6 @@ InSomeRound rules q facts tuple = (n : ℕ) × Answer (Round rules facts n) q tu
 abbrev pub FirstReader : UCQ → List Fact → List ℕ → Type 0
 FirstReader union facts tuple = Answerable tuple × OfSomeMember union facts tuple
 
--- The second reader has rules, question and facts, and goes on from round to round.
+-- The second reader over rules as read has rules, question and facts, and goes on from round to round.
 abbrev pub SecondReader : List Rule → Query → List Fact → List ℕ → Type 0
 SecondReader rules q facts tuple = Answerable tuple × InSomeRound rules q facts tuple

@@ -49,3 +49,8 @@ pub mod Completeness
 pub mod Agreement
 pub mod Growth
 pub mod Bounded
+-- rules as written
+pub mod QualifiedPlaces
+pub mod QualifiedWritten
+pub mod QualifiedRead
+pub mod Qualified

@@ -1,9 +1,12 @@
--- The definitions, in reading order: Lists, Refusals, Syntax, LostTags, Chase, Rewriting, Renaming, Union, Writing, Evaluation.
+-- The definitions, in reading order: Lists, Refusals, Syntax, LostTags, Chase, Qualified, QualifiedChase, Rewriting,
+-- Renaming, Union, Writing, Evaluation.
 pub mod Lists
 pub mod Refusals
 pub mod Syntax
 pub mod LostTags
 pub mod Chase
+pub mod Qualified
+pub mod QualifiedChase
 pub mod Rewriting
 pub mod Renaming
 pub mod Union

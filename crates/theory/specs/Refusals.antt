@@ -6,6 +6,7 @@ use Prim.Native.Nat.{ℕ}
 use mathlib.Core.Bool.{Bool}
 use mathlib.Core.Option.{Option, none, some}
 use mathlib.Core.List.{List, [], _∷_}
+use lib.Dec.{eqb}
 use Rattle.theory.specs.Lists.{pick}
 
 -- the number of the first test that passes
@@ -17,6 +18,10 @@ firstRefusal (e ∷ es) = let later = firstRefusal es in pick (e .1) (some (e .0
 unfoldable pub numberOf : Option ℕ → ℕ
 numberOf none = 0
 numberOf (some n) = n
+
+-- numbers one after the other: one that is not 0 is final, and else the next decides
+unfoldable pub otherwise : ℕ → ℕ → ℕ
+otherwise number next = pick (eqb number 0) next number
 
 -- n is the number of the first condition that holds
 abbrev pub First : List {1} (ℕ × Type 0) → ℕ → Type 0

@@ -1,12 +1,13 @@
 -- The records of 01's sheets as numbers taken apart, before reciprocal names are read. w is the width of an object's number: that of the
 -- sheets, or that of the words that the code works on (Limits).
 use Prim.Native.Nat.{ℕ, _+_, _*_, _/_, _%_, _^_}
-use mathlib.Core.Bool.{Bool, _&&_}
+use mathlib.Core.Bool.{Bool, true, _&&_, _||_}
 use mathlib.Core.Option.{Option}
 use lib.Dec.{eqb, ltb}
 use Rattle.theory.specs.Lists.{pick, guard}
 use Rattle.theory.specs.Syntax.{Term, var, const, Atom, concept, role, Basic, named, has, hasInverse, Rule, conceptInclusion, roleInclusion}
 use Rattle.theory.specs.Syntax.{Step, Fact}
+use Rattle.theory.specs.Qualified.{WrittenRule, qualified}
 
 -- the `width` bits of x that have `below` bits after them; 01: "packed with the most significant bit first"
 abbrev pub field : ℕ → ℕ → ℕ → ℕ
@@ -52,6 +53,29 @@ ruleIn x =
 unfoldable pub ruleOf : ℕ → Option Rule
 unfolding isRule ruleIn
 ruleOf x = guard (isRule x) (ruleIn x)
+
+-- ---- kinds 3 and 4 (02, T-04), which stand in pairs
+
+unfoldable pub isPaired : ℕ → Bool
+isPaired x = eqb (ruleKind x) 3 || eqb (ruleKind x) 4
+
+-- "A rule of kind 3 has kind 1's left side, and as right side a role form 1 or 2."
+unfoldable pub kind3Forms : ℕ → Bool
+kind3Forms x = ltb (leftForm x) 3 && ltb 0 (rightForm x) && ltb (rightForm x) 3
+
+-- "a record of kind 4 with left form 0, the filler concept as left number and zeros on the right"
+unfoldable pub kind4Forms : ℕ → Bool
+kind4Forms x = eqb (leftForm x) 0 && eqb (rightForm x) 0 && eqb (rightName x) 0
+
+-- the forms and zero fields of these kinds are as said; other kinds are not judged
+unfoldable pub pairForms : ℕ → Bool
+unfolding kind3Forms kind4Forms
+pairForms x = pick (eqb (ruleKind x) 3) (kind3Forms x) (pick (eqb (ruleKind x) 4) (kind4Forms x) true)
+
+-- the rule in a kind 3 and the kind 4 after it; right form 2 is "something has the role to it"
+unfoldable pub qualifiedIn : ℕ → ℕ → WrittenRule
+unfolding basicOf
+qualifiedIn x y = qualified (basicOf (leftForm x) (leftName x)) (eqb (rightForm x) 2) (rightName x) (leftName y)
 
 -- ---- terms: "Term, 17 bits: 0 for variable or 1 for object, then a 16-bit number."
 

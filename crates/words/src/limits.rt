@@ -55,3 +55,6 @@ pub const WORD_OBJECT_BOUND: u64 = 0x1000000;
 pub const FIRST_LOST_TAG: u64 = 65024;
 
 pub const LAST_LOST_TAG: u64 = 65535;
+
+// The first of the helper roles, which are numbered down (02, T-04); theory's `Qualified` has it.
+pub const FIRST_HELPER: u64 = 4095;

@@ -1,22 +1,29 @@
-//! The rounds, played out. With matches.rs this is the second reader: it knows no union.
+//! The rounds, played out. With matches.rs this is the second reader: it knows no union. It goes by the rules as written: a kind 3 with
+//! its kind 4 gives each bearer one unnamed thing that has both role and filler, in one round, and no helper ever stands in a round.
 //!
 //! A chase may never end, so it is played out to a fixed depth only. Depth of a thing: 0 for an object, one more than its bearer's
-//! for an unnamed thing. With `makers` rules that make unnamed things and a question of k atoms, depth makers + k + 1 is enough:
+//! for an unnamed thing. With `makers` rules that make unnamed things, qualified ones among them, and a question of k atoms, depth
+//! makers + k + 1 is enough:
 //!
 //! - Every rule has one atom on its left. What is held of the unnamed thing n = (r, c), alone or with things below it, follows from
-//!   the atom that rule r made of c and n, so what lies below n looks the same for every bearer c: it depends on r alone.
+//!   what rule r made of c and n: the role of the two and, if r is qualified, the filler of n. Both are fixed by r. So what lies below n
+//!   looks the same for every bearer c: it depends on r alone.
 //! - A connected part of the question whose match touches an object reaches at most k things further down.
 //! - A connected part whose match touches no object lies below one highest thing n = (r, c), and at most k further down. The
 //!   same match is found below any other thing that r made. The highest thing that r made stands at depth at most `makers`, for
 //!   on the way down to it no rule occurs twice (between two of one rule, the way could be cut short).
 //! - An atom over things of depth at most d follows by way of things of depth at most d + 1: going down to a child, what comes
-//!   back to its bearer is an atom that holds both. So one level more makes the levels above it complete.
+//!   back to its bearer is an atom that holds both. Such an atom follows from the child's role by kind 2 alone; from its filler, which
+//!   holds the child only, nothing comes back. So one level more makes the levels above it complete.
 //!
 //! The number of rounds to that depth is fixed too. An atom comes from a fact by a chain of conclusions, and in a shortest chain
 //! no state is met twice while it stays with one thing: at most 2 states a rule before the rule that makes the next thing down,
-//! and at most 2 a rule between the two. So 4 x rules + 2 rounds a level are enough; after that nothing new may come up to that
-//! depth, which is asserted.
+//! and at most 2 a rule between the two. (A state is a predicate and the thing's place in it; a rule's conclusion has one predicate.) A
+//! qualified rule concludes a second one, its filler, but only of the next thing down: a chain that takes it is there at once and has
+//! nothing between the two, so it adds no state to either part. So 4 x rules + 2 rounds a level are enough; after that nothing new may
+//! come up to that depth, which is asserted.
 
+use crate::rule_sheet::Written;
 use crate::sheets::{Atom, Description, Fact, Rule};
 use std::collections::{HashMap, HashSet};
 use std::hash::Hash;
@@ -42,13 +49,27 @@ pub struct Held {
     firsts: HashMap<(u16, Thing), Vec<Thing>>,
 }
 
-fn makes_unnamed(rule: &Rule) -> bool {
-    matches!(rule, Rule::Bears(_, Description::To(_) | Description::From(_)))
+fn makes_unnamed(rule: &Written) -> bool {
+    let role = |right: Description| matches!(right, Description::To(_) | Description::From(_));
+    match *rule {
+        Written::Plain(rule) => matches!(rule, Rule::Bears(_, right) if role(right)),
+        Written::Qualified { .. } => true,
+    }
 }
 
 /// How many rules make unnamed things.
-fn makers(rules: &[Rule]) -> usize {
+fn makers(rules: &[Written]) -> usize {
     rules.iter().filter(|rule| makes_unnamed(rule)).count()
+}
+
+/// The thing of the atom that bears the description by it.
+fn bearer(left: Description, atom: Atom<Thing>) -> Option<Thing> {
+    match (left, atom) {
+        (Description::Concept(a), Atom::Concept(b, t)) if a == b => Some(t),
+        (Description::To(p), Atom::Role(q, t, _)) if p == q => Some(t),
+        (Description::From(p), Atom::Role(q, _, t)) if p == q => Some(t),
+        _ => None,
+    }
 }
 
 impl Held {
@@ -87,42 +108,64 @@ impl Held {
         held
     }
 
-    /// What the rule at this index concludes from an atom; none if it would make a thing deeper than `deepest`.
-    fn conclusion(&mut self, index: usize, rule: Rule, atom: Atom<Thing>, deepest: usize) -> Option<Atom<Thing>> {
+    /// The unnamed thing that the rule at this index gives the bearer of its left side in the atom, and the role that the two have. None
+    /// if the thing would be deeper than `deepest`.
+    fn made(
+        &mut self,
+        rule: usize,
+        (left, right): (Description, Description),
+        atom: Atom<Thing>,
+        deepest: usize,
+    ) -> Option<(Thing, Atom<Thing>)> {
+        let bearer = bearer(left, atom)?;
+        let depth = self.origins[bearer as usize].1 + 1;
+        if depth > deepest {
+            return None;
+        }
+        let unnamed = self.thing(Origin::Unnamed { rule, bearer }, depth);
+        let role = match right {
+            Description::To(p) => Atom::Role(p, bearer, unnamed),
+            Description::From(p) => Atom::Role(p, unnamed, bearer),
+            Description::Concept(_) => unreachable!("a concept takes no unnamed thing"),
+        };
+        Some((unnamed, role))
+    }
+
+    /// What the rule at this index concludes from an atom: one atom, or role and filler of one unnamed thing. The index is that among
+    /// rules as written; it stands for the index of the first of the three as read, since no two rules have that in common.
+    fn conclusions(
+        &mut self,
+        index: usize,
+        rule: Written,
+        atom: Atom<Thing>,
+        deepest: usize,
+    ) -> [Option<Atom<Thing>>; 2] {
         match (rule, atom) {
-            (Rule::Implies { left, right, exchanged }, Atom::Role(p, t, u)) if p == left => Some(if exchanged {
-                Atom::Role(right, u, t)
-            } else {
-                Atom::Role(right, t, u)
-            }),
-            (Rule::Bears(left, right), _) => {
-                let bearer = match (left, atom) {
-                    (Description::Concept(a), Atom::Concept(b, t)) if a == b => t,
-                    (Description::To(p), Atom::Role(q, t, _)) if p == q => t,
-                    (Description::From(p), Atom::Role(q, _, t)) if p == q => t,
-                    _ => return None,
-                };
-                if let Description::Concept(a) = right {
-                    return Some(Atom::Concept(a, bearer));
-                }
-                let depth = self.origins[bearer as usize].1 + 1;
-                if depth > deepest {
-                    return None;
-                }
-                let unnamed = self.thing(Origin::Unnamed { rule: index, bearer }, depth);
-                Some(match right {
-                    Description::To(p) => Atom::Role(p, bearer, unnamed),
-                    Description::From(p) => Atom::Role(p, unnamed, bearer),
-                    Description::Concept(_) => unreachable!(),
-                })
+            (Written::Plain(Rule::Implies { left, right, exchanged }), Atom::Role(p, t, u)) if p == left => {
+                let (first, second) = if exchanged { (u, t) } else { (t, u) };
+                [Some(Atom::Role(right, first, second)), None]
             }
-            _ => None,
+            (Written::Plain(Rule::Implies { .. }), _) => [None, None],
+            (Written::Plain(Rule::Bears(left, Description::Concept(a))), _) => {
+                [bearer(left, atom).map(|bearer| Atom::Concept(a, bearer)), None]
+            }
+            (Written::Plain(Rule::Bears(left, right)), _) => {
+                let made = self.made(index, (left, right), atom, deepest);
+                [made.map(|(_, role)| role), None]
+            }
+            (Written::Qualified { left, right, filler }, _) => {
+                let made = self.made(index, (left, right), atom, deepest);
+                [
+                    made.map(|(_, role)| role),
+                    made.map(|(unnamed, _)| Atom::Concept(filler, unnamed)),
+                ]
+            }
         }
     }
 
     /// The rounds from the facts under the rules, as far as a question of so many atoms can tell. None if that takes more than
     /// `most` things.
-    pub fn rounds(rules: &[Rule], facts: &[Fact], atoms: usize, most: usize) -> Option<Held> {
+    pub fn rounds(rules: &[Written], facts: &[Fact], atoms: usize, most: usize) -> Option<Held> {
         let deepest = makers(rules) + atoms + 1;
         let rounds = (4 * rules.len() + 2) * (deepest + 2);
         let mut held = Held::facts(facts);
@@ -132,7 +175,7 @@ impl Held {
             let mut new = Vec::new();
             for &atom in &last {
                 for (index, &rule) in rules.iter().enumerate() {
-                    if let Some(conclusion) = held.conclusion(index, rule, atom, deepest) {
+                    for conclusion in held.conclusions(index, rule, atom, deepest).into_iter().flatten() {
                         if held.add(conclusion) {
                             new.push(conclusion);
                         }
@@ -152,8 +195,8 @@ impl Held {
     }
 
     /// Whether these rounds never end. An unnamed thing deeper than there are makers has one rule twice above it, and what
-    /// lies below the upper lies below the lower again, for ever; a chase without such a thing has an end.
-    pub fn never_end(&self, rules: &[Rule]) -> bool {
+    /// lies below the upper lies below the lower again, for ever; a chase without such a thing has an end. Qualified rules are makers.
+    pub fn never_end(&self, rules: &[Written]) -> bool {
         self.origins.iter().any(|&(_, depth)| depth > makers(rules))
     }
 

@@ -2,8 +2,10 @@
 //! aim is no claim.
 
 use crate::chance::Chance;
+use crate::damage_pairs;
 use crate::make::dressed;
 use crate::rewrite;
+use crate::rule_sheet::Written;
 use crate::sheets::{Atom, Description, Question, Rule, Step, Term};
 use crate::write::Draft;
 
@@ -241,8 +243,9 @@ fn spoil_step(draft: &mut Draft, chance: &mut Chance) {
         1
     });
     let many = draft.members.len();
+    // indices go by the rules as read
+    let rules = draft.rules_as_read().len() as u16;
     let step = &mut draft.members[at].0;
-    let rules = draft.rules.len() as u16;
     match chance.below(14) {
         0 => *step = rewrite::QUESTION_ITSELF,
         1 => step.kind = chance.of(&[0, 3]),
@@ -311,9 +314,10 @@ fn repeat_member(draft: &mut Draft, chance: &mut Chance) {
     if many == 0 || many >= 600 {
         return;
     }
+    let rules = draft.rules_as_read();
     for _ in 0..8 {
         let parent = chance.below(many);
-        let steps = rewrite::steps(parent, &draft.members[parent].1, &draft.rules, true);
+        let steps = rewrite::steps(parent, &draft.members[parent].1, &rules, true);
         if steps.is_empty() {
             continue;
         }
@@ -348,7 +352,7 @@ fn remove(draft: &mut Draft, at: usize) -> bool {
     true
 }
 
-/// Aims at 11: a member taken away, or a rule put in.
+/// Aims at 11: a member taken away, or a rule put in, at times a pair.
 fn open_up(draft: &mut Draft, chance: &mut Chance) {
     let many = draft.members.len();
     if many > 1 && !chance.one_in(4) {
@@ -371,13 +375,19 @@ fn open_up(draft: &mut Draft, chance: &mut Chance) {
         Atom::Role(p, _, _) if chance.one_in(2) => Description::To(p),
         Atom::Role(p, _, _) => Description::From(p),
     };
-    draft.rules.push(match (right, chance.one_in(2)) {
-        (Description::To(right), true) => Rule::Implies {
+    let left = Description::Concept(77);
+    draft.rules.push(match (right, chance.below(3)) {
+        (Description::To(right), 0) => Written::Plain(Rule::Implies {
             left: 77,
             right,
             exchanged: chance.one_in(2),
+        }),
+        (Description::To(_) | Description::From(_), 1) => Written::Qualified {
+            left,
+            right,
+            filler: 78,
         },
-        _ => Rule::Bears(Description::Concept(77), right),
+        _ => Written::Plain(Rule::Bears(left, right)),
     });
 }
 
@@ -414,6 +424,7 @@ pub fn draft(aim: u32, draft: &mut Draft, chance: &mut Chance) -> bool {
         10 => repeat_member(draft, chance),
         11 if chance.one_in(4) => shrink(draft, chance),
         11 => open_up(draft, chance),
+        18 => damage_pairs::clash(draft, chance),
         _ => return false,
     }
     true

@@ -1,6 +1,7 @@
 //! Damage to packed sheets: lengths, counts, bits that must be zero, and anything anywhere.
 
 use crate::chance::Chance;
+use crate::damage_pairs;
 use crate::refusals::Sheets;
 use crate::sheets;
 
@@ -73,12 +74,8 @@ fn rule_form(bytes: &mut Vec<u8>, chance: &mut Chance) {
         .min((bytes.len() / 4).saturating_sub(1))
         * 32;
     match chance.below(4) {
-        0 => field(
-            bytes,
-            at,
-            4,
-            chance.of(&[0, 3, 4, 5, 6, 7, 8, 9, 10, 11, 12, 13, 14, 15]),
-        ),
+        // kinds 3 and 4 are no matter of 2
+        0 => field(bytes, at, 4, chance.of(&[0, 5, 6, 7, 8, 9, 10, 11, 12, 13, 14, 15])),
         1 => field(bytes, at + chance.of(&[4, 18]), 2, 3),
         2 => {
             field(bytes, at, 4, 2);
@@ -211,6 +208,7 @@ pub fn bytes(aim: u32, sheets: &mut Sheets, chance: &mut Chance) {
         6 => union_sheet(&mut sheets.union, chance),
         12 => fact_length(&mut sheets.facts, chance),
         13 => fact_bits(&mut sheets.facts, chance),
+        17 => damage_pairs::spoil(&mut sheets.rules, chance),
         _ => anywhere(sheets, chance),
     }
 }

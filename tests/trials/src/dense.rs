@@ -6,9 +6,11 @@ use crate::chance::Chance;
 use crate::chase::Held;
 use crate::dense_questions::{plain, question, Outline};
 use crate::dense_relations::{names, rules, Shape, SHAPES};
+use crate::helpers::clashes;
 use crate::lost_tags;
 use crate::make;
 use crate::rewrite;
+use crate::rule_sheet::as_read;
 use crate::sheets::{Atom, Fact, Question, Rule, Step};
 use crate::write::Draft;
 use std::collections::BTreeSet;
@@ -117,7 +119,7 @@ impl Turn {
         chance.shuffle(facts);
     }
 
-    /// Sheets that are accepted; none if chance gives too many members or another size.
+    /// Sheets that are accepted; none if chance gives too many members, another size, or a role that is a helper.
     fn draft(&self, chance: &mut Chance) -> Option<Draft> {
         let (wanted, most) = self.facts(chance);
         let (many, dense) = self.shape.objects_and_roles(wanted, chance);
@@ -129,9 +131,12 @@ impl Turn {
             true => plain(&names, self.outline, most_atoms, chance),
             false => question(&names, self.outline, most_atoms, chance),
         };
-        let rules = rules(&names, &question, chance);
-        let members = union(&question, &rules, self.size.most_members, chance)?;
-        self.size.facts.contains(&facts.len()).then_some(Draft {
+        // the largest keep to plain rules: few of them have enough keys, and with longer unions fewer would
+        let pairs = self.size.entries < 1_000;
+        let rules = rules(&names, &question, pairs, chance);
+        let members = union(&question, &as_read(&rules), self.size.most_members, chance)?;
+        let is_sound = clashes(&rules, Some(&question), Some(&facts)).is_empty();
+        (is_sound && self.size.facts.contains(&facts.len())).then_some(Draft {
             rules,
             question,
             members,

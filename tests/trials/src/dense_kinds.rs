@@ -4,9 +4,10 @@
 use crate::chase::{Held, Thing};
 use crate::dense::{Case, EDGES, MOST_ROWS, SIZES};
 use crate::dense_questions::Outline;
+use crate::helpers::Helpers;
 use crate::join::{asked_for, variables, Row};
 use crate::lost_tags;
-use crate::sheets::{Atom, Question, Term};
+use crate::sheets::{Atom, Question, Step, Term};
 use crate::write::Draft;
 use std::collections::BTreeSet;
 
@@ -143,7 +144,7 @@ pub struct Kinds {
 }
 
 /// What is counted of cases, and how often it must be met.
-pub const KINDS: [(&str, u64); 16] = [
+pub const KINDS: [(&str, u64); 17] = [
     ("with one variable twice in an atom", 120),
     ("with an object at the first place of an atom alone", 90),
     ("with an object at the second place of an atom alone", 90),
@@ -163,6 +164,7 @@ pub const KINDS: [(&str, u64); 16] = [
         150,
     ),
     ("with fifty answers or more", 120),
+    ("with a member that uses a helper", 100),
 ];
 
 /// Whether some role atom has objects at these of its places and variables at the others.
@@ -245,7 +247,14 @@ impl Kinds {
 
 /// Which lines of `KINDS` hold.
 fn has(held: &Held, case: &Case, found: &[BTreeSet<Vec<u16>>]) -> Option<[bool; KINDS.len()]> {
-    let Draft { question, members, .. } = &case.draft;
+    let Draft {
+        rules,
+        question,
+        members,
+        ..
+    } = &case.draft;
+    let helpers = Helpers::of(rules);
+    let uses_helper = |(_, question): &(Step, Question)| helpers.stand_in(&question.atoms);
     let Question { answers, atoms } = question;
     let in_atoms: Vec<Term> = atoms.iter().flat_map(|atom| atom.terms()).collect();
     let matches = held.rows(atoms, &BTreeSet::new(), MOST_ROWS)?;
@@ -270,5 +279,6 @@ fn has(held: &Held, case: &Case, found: &[BTreeSet<Vec<u16>>]) -> Option<[bool; 
         !case.left_out.is_empty(),
         case.left_out.iter().any(near),
         case.answers.len() >= 50,
+        members.iter().any(uses_helper),
     ])
 }

@@ -1,6 +1,7 @@
 //! Dense relations, and what stands beside them: few facts or none of some names, and rules that lead from those to others.
 
 use crate::chance::Chance;
+use crate::rule_sheet::Written;
 use crate::sheets::{Atom, Description, Fact, Question, Rule, Term};
 use std::collections::BTreeSet;
 
@@ -237,8 +238,20 @@ fn fork(atoms: &[Atom<Term>]) -> Option<Description> {
     forks.last()
 }
 
+/// A rule that gives a role gives a filler too, at times.
+fn qualified(rule: Rule, names: &Names, chance: &mut Chance) -> Written {
+    match rule {
+        Rule::Bears(left, right @ (Description::To(_) | Description::From(_))) if chance.one_in(3) => {
+            let filler = chance.of(&[names.all, names.few, names.none, names.under]);
+            Written::Qualified { left, right, filler }
+        }
+        rule => Written::Plain(rule),
+    }
+}
+
 /// A few rules that may apply to the question, most of them to what is not dense: there they lead to few members, and out of dead ends.
-pub fn rules(names: &Names, question: &Question, chance: &mut Chance) -> Vec<Rule> {
+/// Pairs are among them if they may be.
+pub fn rules(names: &Names, question: &Question, pairs: bool, chance: &mut Chance) -> Vec<Written> {
     let atoms = &question.atoms;
     let is_dense = |atom: &&Atom<Term>| matches!(atom, Atom::Role(p, _, _) if names.dense.contains(p));
     let thin = Vec::from_iter(atoms.iter().filter(|atom| !is_dense(atom)).copied());
@@ -258,7 +271,11 @@ pub fn rules(names: &Names, question: &Question, chance: &mut Chance) -> Vec<Rul
     if let (Some(right), true) = (fork(atoms), chance.one_in(2)) {
         rules.push(Rule::Bears(left(names, chance), right));
     }
-    rules
+    let written = |rule| match pairs {
+        true => qualified(rule, names, chance),
+        false => Written::Plain(rule),
+    };
+    rules.into_iter().map(written).collect()
 }
 
 #[cfg(test)]

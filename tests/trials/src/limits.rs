@@ -1,7 +1,9 @@
 //! Sheets at the limits: the largest union, as many rules and facts as there may be, atoms that all look alike.
 
 use crate::chance::Chance;
+use crate::helpers::{clashes, Helpers};
 use crate::make::{draft, dressed, names, rule, some_facts, union};
+use crate::rule_sheet::{pairs, plain, Written, MOST_RULES};
 use crate::sheets::{Atom, Description, Question, Rule, Term, MOST_MEMBERS};
 use crate::write::Draft;
 
@@ -21,7 +23,7 @@ pub fn widest(chance: &mut Chance) -> Draft {
         .collect();
     let members = union(&question, &rules, MOST_MEMBERS, chance).expect("512 members and no more");
     Draft {
-        rules,
+        rules: plain(&rules),
         question,
         members,
         facts,
@@ -48,9 +50,9 @@ pub fn look_alike(chance: &mut Chance) -> Draft {
         let question = dressed(Question { answers: vec![], atoms }, chance);
         let rules: Vec<Rule> = (0..chance.below(3)).map(|_| rule(&names, chance)).collect();
         if let Some(members) = union(&question, &rules, MOST_MEMBERS, chance) {
-            let facts = some_facts(&names, &members, chance);
+            let facts = some_facts(&names, Helpers::of(&[]), &members, chance);
             return Draft {
-                rules,
+                rules: plain(&rules),
                 question,
                 members,
                 facts,
@@ -59,17 +61,44 @@ pub fn look_alike(chance: &mut Chance) -> Draft {
     }
 }
 
+/// A rule that changes nothing: no question has its right side.
+fn idle(number: usize) -> Written {
+    let idle = 3000 + number as u16;
+    Written::Plain(Rule::Bears(
+        Description::Concept(idle),
+        Description::Concept(idle + 512),
+    ))
+}
+
 /// As many rules as there may be: those of a small draft among others that change nothing.
 pub fn most_rules(chance: &mut Chance) -> Draft {
     let mut draft = draft(chance);
-    while draft.rules.len() < 512 {
-        let idle = (3000 + draft.rules.len()) as u16;
-        draft.rules.push(Rule::Bears(
-            Description::Concept(idle),
-            Description::Concept(idle + 512),
-        ));
+    for number in draft.rules_as_read().len()..MOST_RULES {
+        draft.rules.push(idle(number));
     }
     draft
+}
+
+/// The same with pairs, which are three rules each as read: few pairs, or as many as there may be.
+pub fn most_rules_with_pairs(chance: &mut Chance) -> Draft {
+    loop {
+        let mut draft = draft(chance);
+        let mut read = draft.rules_as_read().len();
+        let many = chance.of(&[1, 3, 60, MOST_RULES]);
+        while pairs(&draft.rules) < many && read + 3 <= MOST_RULES {
+            draft.rules.push(Written::Qualified {
+                left: Description::Concept(3000 + read as u16),
+                right: chance.of(&[Description::To(2_900), Description::From(2_900)]),
+                filler: 2_901,
+            });
+            read += 3;
+        }
+        draft.rules.extend((read..MOST_RULES).map(idle));
+        // a role of the draft may be a helper now
+        if clashes(&draft.rules, Some(&draft.question), Some(&draft.facts)).is_empty() {
+            return draft;
+        }
+    }
 }
 
 /// As many facts as there may be, most of them repeated, with a question of one or two atoms.
@@ -128,7 +157,7 @@ pub fn many_answers(chance: &mut Chance) -> Draft {
     }
     let members = union(&question, &rules, MOST_MEMBERS, chance).expect("few members");
     Draft {
-        rules,
+        rules: plain(&rules),
         question,
         members,
         facts,

@@ -8,24 +8,30 @@ mod memo_search;
 #[cfg(test)]
 mod memo_tables;
 mod near_counts;
+mod pair_counts;
 mod tally;
 mod writing;
 
 use std::process::ExitCode;
 use tally::Tally;
 use trials::chance::Chance;
+use trials::many_members::Plan;
 use trials::refusals::Sheets;
 use trials::write::{self, Draft};
-use trials::{cards, damage, damage_bytes, limits, make, many_members};
+use trials::{cards, damage, damage_bytes, damage_pairs, limits, make, many_members};
 
 const SEED: u64 = 20_070_713;
 const CASES: u64 = 24_000;
 /// One in so many cases has a second one beside it: rules and a question that lead to many unlike questions.
 const ONE_OF_MANY_IN: u64 = 100;
+/// One in so many of those has a third beside it, with a clash of helper and role.
+const ONE_CLASH_IN: u64 = 5;
 /// One in so many has a near miss beside it, and a needed fact at some place.
 const ONE_NEAR_MISS_IN: u64 = 5;
 /// One in so many has a dense case beside it.
 const ONE_DENSE_IN: u64 = 12;
+/// One in so many is damaged so that two numbers hold whose order matters.
+const ONE_ORDER_IN: usize = 30;
 /// Differences that are printed before the run is given up.
 const MOST_DIFFERENCES: usize = 10;
 
@@ -36,22 +42,34 @@ fn draft(case: u64, chance: &mut Chance) -> Draft {
         (1_001, _) => limits::most_rules(chance),
         (1_501, _) => limits::most_facts(chance),
         (251 | 751 | 1_251 | 1_751, _) => limits::many_answers(chance),
+        (_, 17) if case % 500 < 50 => limits::most_rules_with_pairs(chance),
         (_, 0) => limits::look_alike(chance),
         _ => make::draft(chance),
     }
 }
 
-/// Sheets of one case: as they are made, or with damage aimed at up to three refusals.
+/// Numbers that hold together after damage aimed at both, in the order of the aims: what is packed first comes first, and 11 needs the
+/// union that 18 has closed again.
+const TOGETHER: [[u32; 2]; 6] = [[17, 2], [17, 3], [18, 5], [18, 11], [18, 12], [18, 13]];
+
+/// What the damage of a case is aimed at: up to three refusals.
+fn aims(chance: &mut Chance) -> Vec<u32> {
+    if chance.one_in(ONE_ORDER_IN) {
+        return chance.of(&TOGETHER).to_vec();
+    }
+    let wounds = chance.weighed(&[40, 42, 13, 5]);
+    let aim = |chance: &mut Chance| match chance.below(3) {
+        0 => chance.from(7, 11) as u32,
+        _ => chance.of(&[0, 1, 2, 3, 4, 5, 6, 7, 8, 9, 10, 11, 12, 13, 17, 18, 18]),
+    };
+    (0..wounds).map(|_| aim(chance)).collect()
+}
+
+/// Sheets of one case: as they are made, or damaged.
 fn sheets_of(case: u64, chance: &mut Chance) -> Sheets {
     let mut draft = draft(case, chance);
-    let wounds = chance.weighed(&[40, 42, 13, 5]);
     let mut later = Vec::new();
-    for _ in 0..wounds {
-        let aim = if chance.one_in(3) {
-            chance.from(7, 11)
-        } else {
-            chance.from(0, 13)
-        } as u32;
+    for aim in aims(chance) {
         if !damage::draft(aim, &mut draft, chance) {
             later.push(aim);
         }
@@ -63,20 +81,32 @@ fn sheets_of(case: u64, chance: &mut Chance) -> Sheets {
     sheets
 }
 
-/// Rules and a question that lead to many unlike questions; at times damaged, so that 1 to 5 come before 15. There are no facts, or
-/// rather a sheet of them that is refused, so that facts are made for the union that is written.
-fn sheets_of_many(turn: u64, chance: &mut Chance) -> Sheets {
-    let (rules, question) = many_members::plan(turn, chance);
-    let mut sheets = Sheets {
-        rules: write::rules(&rules, chance),
-        question: write::question(&question, chance),
+/// Rules and a question, packed. There are no facts, or rather a sheet of them that is refused, so that facts are made for the union that
+/// is written.
+fn packed((rules, question): &Plan, chance: &mut Chance) -> Sheets {
+    Sheets {
+        rules: write::rules(rules, chance),
+        question: write::question(question, chance),
         union: vec![],
         facts: vec![0],
-    };
-    if chance.one_in(8) {
-        damage_bytes::bytes(chance.from(1, 3) as u32, &mut sheets, chance);
     }
-    sheets
+}
+
+/// Rules and a question that lead to many unlike questions; at times damaged, so that 1 to 5 and 17 come before 15, and at times beside
+/// a clash of helper and role, so that 18 does.
+fn compare_many(tally: &mut Tally, case: u64, chance: &mut Chance) {
+    let turn = case / ONE_OF_MANY_IN;
+    let mut plan = many_members::plan(turn, chance);
+    let mut sheets = packed(&plan, chance);
+    if chance.one_in(8) {
+        damage_bytes::bytes(chance.of(&[1, 2, 3, 17]), &mut sheets, chance);
+    }
+    tally.compare_write(&format!("case {case}, many members"), &sheets, chance);
+    if turn % ONE_CLASH_IN == 0 {
+        damage_pairs::clash_idly(&mut plan.0, chance);
+        let sheets = packed(&plan, chance);
+        tally.compare_write(&format!("case {case}, many members and a clash"), &sheets, chance);
+    }
 }
 
 fn run(seed: u64, cases: u64) -> bool {
@@ -96,8 +126,7 @@ fn run(seed: u64, cases: u64) -> bool {
         tally.compare(&format!("case {case}"), &sheets, &mut chance);
         tally.compare_write(&format!("case {case}"), &sheets, &mut chance);
         if case % ONE_OF_MANY_IN == 0 {
-            let sheets = sheets_of_many(case / ONE_OF_MANY_IN, &mut chance);
-            tally.compare_write(&format!("case {case}, many members"), &sheets, &mut chance);
+            compare_many(&mut tally, case, &mut chance);
         }
         if case % ONE_NEAR_MISS_IN == 0 {
             tally.compare_near(&format!("case {case}"), case / ONE_NEAR_MISS_IN, &mut chance);

@@ -1,8 +1,11 @@
 //! Sheets by chance: few names, so that rules, question and facts have to do with each other; roles of all three kinds of the
-//! partner table; rules that run in circles; unions made by closing the question under all steps.
+//! partner table; rules that run in circles, pairs among them; unions made by closing the question under all steps.
 
 use crate::chance::Chance;
+use crate::helpers::Helpers;
+use crate::make_pairs;
 use crate::rewrite;
+use crate::rule_sheet::{as_read, Written};
 use crate::sheets::{Atom, Description, Fact, Question, Rule, Step, Term, MOST_MEMBERS};
 use crate::write::Draft;
 
@@ -50,7 +53,7 @@ pub fn names(chance: &mut Chance) -> Names {
     }
 }
 
-fn description(names: &Names, chance: &mut Chance) -> Description {
+pub fn description(names: &Names, chance: &mut Chance) -> Description {
     match chance.below(3) {
         0 => Description::Concept(chance.of(&names.concepts)),
         1 => Description::To(chance.of(&names.roles)),
@@ -240,12 +243,16 @@ fn rule_after_merge(members: &[(Step, Question)], mut at: usize) -> bool {
     by_rule && at > 0
 }
 
-/// Facts by chance, and at times such that a later member has an answer, one that needs a merge if there is one.
-pub fn some_facts(names: &Names, members: &[(Step, Question)], chance: &mut Chance) -> Vec<Fact> {
+/// Facts by chance, and at times such that a later member has an answer, one that needs a merge if there is one. No fact may have a
+/// helper, so a member that uses one is passed over.
+pub fn some_facts(names: &Names, helpers: Helpers, members: &[(Step, Question)], chance: &mut Chance) -> Vec<Fact> {
     let wish = chance.below(4);
-    let mut later: Vec<usize> = (1..members.len()).filter(|&m| rule_after_merge(members, m)).collect();
+    let open = (1..members.len()).filter(|&m| !helpers.stand_in(&members[m].1.atoms));
+    let open = Vec::from_iter(open);
+    let mut later = open.clone();
+    later.retain(|&m| rule_after_merge(members, m));
     if wish < 2 || later.is_empty() {
-        later = (1..members.len()).collect();
+        later = open;
     }
     if wish == 0 || later.is_empty() {
         let many = chance.weighed(&[1, 3, 3, 3, 2, 2, 2, 2, 2, 1, 1, 1, 1]);
@@ -288,19 +295,24 @@ pub fn union(question: &Question, rules: &[Rule], most: usize, chance: &mut Chan
 }
 
 /// Names, rules over them and a question.
-pub fn plan(chance: &mut Chance) -> (Names, Vec<Rule>, Question) {
-    let names = names(chance);
-    let (rules, question) = match chance.one_in(5) {
+pub type Plan = (Names, Vec<Written>, Question);
+
+pub fn plan(chance: &mut Chance) -> Plan {
+    let mut names = names(chance);
+    let pairs = make_pairs::how_many(chance);
+    make_pairs::leave_helpers(&mut names, pairs, chance);
+    let usual = match chance.one_in(5) {
         true => forked(&names, chance),
         false => (rules(&names, chance), question(&names, chance)),
     };
+    let (rules, question) = make_pairs::with_pairs(pairs, &names, usual, chance);
     (names, rules, question)
 }
 
 /// Sheets that are accepted, with these rules and this question; none if the union has more than `most` members.
-fn closed((names, rules, question): (Names, Vec<Rule>, Question), most: usize, chance: &mut Chance) -> Option<Draft> {
-    let members = union(&question, &rules, most, chance)?;
-    let facts = some_facts(&names, &members, chance);
+fn closed((names, rules, question): Plan, most: usize, chance: &mut Chance) -> Option<Draft> {
+    let members = union(&question, &as_read(&rules), most, chance)?;
+    let facts = some_facts(&names, Helpers::of(&rules), &members, chance);
     Some(Draft {
         rules,
         question,

@@ -2,13 +2,12 @@
 
 use crate::chance::Chance;
 use crate::make;
+use crate::rule_sheet::{as_read, plain, Written, MOST_RULES};
 use crate::sheets::{Atom, Description, Question, Rule, Term};
 use crate::unions::reached;
 
 /// Rules, and a question for them.
-pub type Plan = (Vec<Rule>, Question);
-
-const MOST_RULES: usize = 512;
+pub type Plan = (Vec<Written>, Question);
 
 /// So many names, none twice, as they are read: the higher of two partners is left out.
 fn names(many: usize, chance: &mut Chance) -> Vec<u16> {
@@ -38,10 +37,11 @@ fn tree(names: &[u16], chance: &mut Chance) -> Vec<(u16, u16)> {
     (1..names.len()).map(|i| (names[i], above(i, chance))).collect()
 }
 
-/// The rules in another order, and at times one of them again.
-fn in_some_order(mut rules: Vec<Rule>, chance: &mut Chance) -> Vec<Rule> {
-    if rules.len() < MOST_RULES && !rules.is_empty() && chance.one_in(3) {
-        rules.push(chance.of(&rules));
+/// The rules in another order, and at times one of them again, but no pair: that would have a helper of its own.
+fn in_some_order(mut rules: Vec<Written>, chance: &mut Chance) -> Vec<Written> {
+    if as_read(&rules).len() < MOST_RULES && !rules.is_empty() && chance.one_in(3) {
+        let again = chance.of(&rules);
+        rules.extend((!again.is_qualified()).then_some(again));
     }
     if !chance.one_in(4) {
         chance.shuffle(&mut rules);
@@ -49,9 +49,9 @@ fn in_some_order(mut rules: Vec<Rule>, chance: &mut Chance) -> Vec<Rule> {
     rules
 }
 
-fn concept_rules(tree: Vec<(u16, u16)>) -> impl Iterator<Item = Rule> {
-    tree.into_iter()
-        .map(|(below, above)| Rule::Bears(Description::Concept(below), Description::Concept(above)))
+fn concept_rules(tree: Vec<(u16, u16)>) -> impl Iterator<Item = Written> {
+    let rule = |(below, above)| Rule::Bears(Description::Concept(below), Description::Concept(above));
+    tree.into_iter().map(rule).map(Written::Plain)
 }
 
 /// One atom, and a tree of names below its own: as many members as names.
@@ -76,42 +76,60 @@ pub fn taxonomy(many: usize, chance: &mut Chance) -> Plan {
         let exchanged = chance.one_in(2);
         rules.push(Rule::Implies { left, right, exchanged });
     }
-    (in_some_order(rules, chance), question)
+    (in_some_order(plain(&rules), chance), question)
 }
 
-/// Two or three atoms of one role that lead to or from one thing, which only a merge makes loose; a tree of names below "has the role".
-fn fork_of(many: usize, prongs: usize, answers: usize, chance: &mut Chance) -> Plan {
-    let (role, to) = (chance.of(&[0, 2, 8, 16, 4095]), chance.one_in(2));
-    let ends = variables(prongs + 1, chance);
+/// Two or three atoms of one role that lead to or from one thing, which only a merge makes loose.
+#[derive(Clone, Copy)]
+struct Fork {
+    prongs: usize,
+    answers: usize,
+    /// Whether "has the role" is a pair, so that the thing bears a filler, and whether the filler is asked for.
+    qualified: bool,
+    filler_asked: bool,
+}
+
+/// A fork, and a tree of so many names below "has the role".
+fn fork_of(many: usize, fork: Fork, chance: &mut Chance) -> Plan {
+    // beside a pair, 4,095 is a helper, and the next below is none
+    let highest = if fork.qualified { 4094 } else { 4095 };
+    let (role, to) = (chance.of(&[0, 2, 8, 16, highest]), chance.one_in(2));
+    let ends = variables(fork.prongs + 1, chance);
+    let shared = ends[fork.prongs];
     let atom = |&end: &Term| match to {
-        true => Atom::Role(role, end, ends[prongs]),
-        false => Atom::Role(role, ends[prongs], end),
+        true => Atom::Role(role, end, shared),
+        false => Atom::Role(role, shared, end),
     };
-    let question = Question {
-        answers: ends[..answers].to_vec(),
-        atoms: ends[..prongs].iter().map(atom).collect(),
+    let mut names = names(many + 1, chance);
+    let filler = names.pop().expect("one more than many");
+    let mut atoms: Vec<Atom<Term>> = ends[..fork.prongs].iter().map(atom).collect();
+    atoms.extend(fork.filler_asked.then_some(Atom::Concept(filler, shared)));
+    let right = match to {
+        true => Description::To(role),
+        false => Description::From(role),
     };
-    let names = names(many, chance);
-    let right = if to {
-        Description::To(role)
-    } else {
-        Description::From(role)
-    };
-    let mut rules = vec![Rule::Bears(Description::Concept(names[0]), right)];
+    let left = Description::Concept(names[0]);
+    let mut rules = vec![match fork.qualified {
+        true => Written::Qualified { left, right, filler },
+        false => Written::Plain(Rule::Bears(left, right)),
+    }];
     rules.extend(concept_rules(tree(&names, chance)));
-    (in_some_order(rules, chance), question)
+    let answers = ends[..fork.answers].to_vec();
+    (in_some_order(rules, chance), Question { answers, atoms })
 }
 
 /// A fork with so many members: one name is tried first, and each further name is one more member.
 pub fn fork(many: usize, chance: &mut Chance) -> Plan {
-    let prongs = chance.from(2, 3);
-    let answers = chance.from(0, prongs);
-    let with_one = |chance: &mut Chance| {
-        let (rules, question) = fork_of(1, prongs, answers, chance);
-        reached(&question, &rules, 100).len()
+    let (prongs, qualified) = (chance.from(2, 3), chance.one_in(2));
+    let fork = Fork {
+        prongs,
+        answers: chance.from(0, prongs),
+        qualified,
+        filler_asked: qualified && chance.one_in(2),
     };
-    let others = with_one(chance) - 1;
-    fork_of(many - others, prongs, answers, chance)
+    let (rules, question) = fork_of(1, fork, chance);
+    let others = reached(&question, &as_read(&rules), many).len() - 1;
+    fork_of(many - others, fork, chance)
 }
 
 /// Concepts with so many names each, their own among them: as many members as the product says.
@@ -179,7 +197,7 @@ pub fn product_of_more(chance: &mut Chance) -> Plan {
 pub fn wild(chance: &mut Chance) -> Plan {
     loop {
         let (_, rules, question) = make::plan(chance);
-        if reached(&question, &rules, 49).len() == 49 {
+        if reached(&question, &as_read(&rules), 49).len() == 49 {
             return (rules, question);
         }
     }
@@ -205,6 +223,7 @@ pub fn plan(turn: u64, chance: &mut Chance) -> Plan {
 #[cfg(test)]
 mod tests {
     use super::*;
+    use crate::rule_sheet::pairs;
 
     #[test]
     fn plans_have_the_members_that_they_say() {
@@ -212,6 +231,7 @@ mod tests {
             let chance = &mut Chance::new(seed);
             for (turn, many) in [(0, 512), (1, 513), (2, 512), (3, 513), (4, 512), (5, 513), (6, 600)] {
                 let (rules, question) = plan(turn, chance);
+                let rules = as_read(&rules);
                 assert!(rules.len() <= MOST_RULES, "{} rules", rules.len());
                 let found = reached(&question, &rules, 600).len();
                 match turn {
@@ -225,17 +245,20 @@ mod tests {
     #[test]
     fn the_longest_union_has_33_282_bytes() {
         let (rules, question) = longest(&mut Chance::new(1));
-        let members = reached(&question, &rules, 600);
+        let members = reached(&question, &as_read(&rules), 600);
         assert_eq!(crate::write::union_as_read(&members).len(), 33_282);
     }
 
     #[test]
-    fn forks_merge() {
-        let (rules, question) = fork(512, &mut Chance::new(3));
-        let members = reached(&question, &rules, 512);
-        assert_eq!(
-            members.iter().filter(|(step, _)| step.kind == 2).count(),
-            question.atoms.len() - 1
-        );
+    fn forks_merge_and_some_are_qualified() {
+        let mut qualified = 0;
+        for seed in 0..12 {
+            let (rules, question) = fork(512, &mut Chance::new(seed));
+            let members = reached(&question, &as_read(&rules), 512);
+            let merges = members.iter().filter(|(step, _)| step.kind == 2).count();
+            assert!(merges >= question.atoms.len() - 1, "{merges}");
+            qualified += pairs(&rules);
+        }
+        assert!(qualified > 1, "{qualified}");
     }
 }

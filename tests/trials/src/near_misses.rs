@@ -2,6 +2,7 @@
 //! needed if, by the rounds, other answers come without it.
 
 use crate::chance::Chance;
+use crate::helpers::Helpers;
 use crate::make;
 use crate::refusals::by_rounds;
 use crate::scan::{self, Fault, FIRST, SECOND};
@@ -29,8 +30,11 @@ fn found(draft: &Draft, facts: &[Fact], fault: Option<Fault>) -> BTreeSet<Vec<u1
     scan::answers(facts, draft.members.iter().map(|(_, question)| question), fault)
 }
 
-/// The answers from these facts by the rounds; none if that takes too many things.
+/// The answers from these facts by the rounds; none if that takes too many things, or if a fact has a helper for its role.
 fn answers(draft: &Draft, facts: &[Fact]) -> Option<BTreeSet<Vec<u16>>> {
+    if Helpers::of(&draft.rules).stand_in(facts) {
+        return None;
+    }
     by_rounds(&draft.rules, &draft.question, facts, MOST_THINGS)
 }
 

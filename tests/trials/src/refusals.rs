@@ -3,8 +3,10 @@
 
 use crate::alike::{alike, Classes};
 use crate::chase::Held;
+use crate::helpers::{clashes, no_clash};
 use crate::lost_tags;
 use crate::rewrite;
+use crate::rule_sheet::{self, RuleSheet, Written};
 use crate::sheets::{self, Fact, Member, Question, Rule};
 use std::collections::BTreeSet;
 
@@ -16,9 +18,9 @@ pub struct Sheets {
     pub facts: Vec<u8>,
 }
 
-/// Sheets that meet none of 1 to 11, as read.
+/// Sheets that meet none of 1 to 11 and 17, as read.
 pub struct Accepted {
-    pub rules: Vec<Rule>,
+    pub rules: RuleSheet,
     pub question: Question,
     pub members: Vec<Member>,
 }
@@ -63,16 +65,19 @@ fn closed(rules: &[Rule], members: &[Member]) -> Result<(), u32> {
     Ok(())
 }
 
-/// Checking a union: refusals 1 to 11.
-pub fn check(sheets: &Sheets) -> Result<Accepted, u32> {
-    let rules = sheets::rules(&sheets.rules)?;
+/// The numbers in the order in which they decide, 14 to 16 left out: each call has those of its sheets in this order.
+const ORDER: [u32; 15] = [1, 2, 17, 3, 4, 5, 6, 7, 8, 9, 10, 11, 12, 13, 18];
+
+/// The numbers of 1 to 11 and 17, which come before 18 in checking and before 12 in drawing.
+fn closed_union(sheets: &Sheets) -> Result<Accepted, u32> {
+    let rules = rule_sheet::rules(&sheets.rules)?;
     let question = sheets::question(&sheets.question)?;
     let members = sheets::union(&sheets.union, question.answers.len())?;
     if member_0_differs(&question, &members) {
         return Err(7);
     }
-    steps_hold(&rules, &members)?;
-    closed(&rules, &members)?;
+    steps_hold(&rules.read, &members)?;
+    closed(&rules.read, &members)?;
     Ok(Accepted {
         rules,
         question,
@@ -80,23 +85,39 @@ pub fn check(sheets: &Sheets) -> Result<Accepted, u32> {
     })
 }
 
-/// Every number of 1 to 13 whose condition holds, each looked at for itself as far as the sheets can be read; the first is what
-/// the call returns. For counting cases in which an earlier refusal hides a later one, and as a test of `check`.
+/// Checking a union: refusals 1 to 11 and 17, then 18.
+pub fn check(sheets: &Sheets) -> Result<Accepted, u32> {
+    let accepted = closed_union(sheets)?;
+    no_clash(&accepted.rules.written, &accepted.question, &[])?;
+    Ok(accepted)
+}
+
+/// Every number of drawing but 14 whose condition holds, each looked at for itself as far as the sheets can be read; the first is what
+/// the call returns. For counting cases in which an earlier refusal hides a later one, and as a test of `draw`.
 pub fn conditions(sheets: &Sheets) -> Vec<u32> {
-    let rules = sheets::rules(&sheets.rules);
+    let rules = rule_sheet::rules(&sheets.rules);
     let question = sheets::question(&sheets.question);
     let facts = sheets::facts(&sheets.facts);
-    let alone = [rules.as_ref().err(), question.as_ref().err(), facts.as_ref().err()];
-    let mut all: Vec<u32> = alone.into_iter().flatten().copied().collect();
-    let Ok(question) = question else {
-        return all;
+    let mut all = rule_sheet::conditions(&sheets.rules);
+    all.extend([question.as_ref().err(), facts.as_ref().err()].into_iter().flatten());
+    if let Ok(RuleSheet { written, .. }) = &rules {
+        let places = clashes(written, question.as_ref().ok(), facts.as_deref().ok());
+        all.extend((!places.is_empty()).then_some(18));
+    }
+    if let Ok(question) = question {
+        all.extend(union_conditions(rules.ok(), &question, &sheets.union));
+    }
+    all.sort_by_key(|number| ORDER.iter().position(|other| other == number));
+    all
+}
+
+/// Which of 6 to 11 hold beside this question.
+fn union_conditions(rules: Option<RuleSheet>, question: &Question, union: &[u8]) -> Vec<u32> {
+    let Ok(members) = sheets::union(union, question.answers.len()) else {
+        return vec![6];
     };
-    let Ok(members) = sheets::union(&sheets.union, question.answers.len()) else {
-        all.push(6);
-        all.sort();
-        return all;
-    };
-    if member_0_differs(&question, &members) {
+    let mut all = Vec::new();
+    if member_0_differs(question, &members) {
         all.push(7);
     }
     let is_alike = |i: usize| {
@@ -107,10 +128,9 @@ pub fn conditions(sheets: &Sheets) -> Vec<u32> {
     if (0..members.len()).any(is_alike) {
         all.push(10);
     }
-    if let Ok(rules) = rules {
-        all.extend(step_conditions(&rules, &members));
+    if let Some(rules) = rules {
+        all.extend(step_conditions(&rules.read, &members));
     }
-    all.sort();
     all
 }
 
@@ -154,19 +174,21 @@ pub struct Drawn {
     pub never_ends: bool,
 }
 
-/// Refusals 1 to 13, then the answers by rounds; `Ok(None)` if these take more than `most` things.
+/// Refusals 1 to 13 and 17, then 18, then the answers by rounds; `Ok(None)` if these take more than `most` things.
 pub fn draw(sheets: &Sheets, most: usize) -> Result<Option<Drawn>, u32> {
-    let accepted = check(sheets)?;
+    let accepted = closed_union(sheets)?;
     let facts = sheets::facts(&sheets.facts)?;
+    let rules = &accepted.rules.written;
+    no_clash(rules, &accepted.question, &facts)?;
     let atoms = accepted.question.atoms.len();
-    Ok(Held::rounds(&accepted.rules, &facts, atoms, most).map(|held| {
+    Ok(Held::rounds(rules, &facts, atoms, most).map(|held| {
         let (answers, left_out) = lost_tags::parted(held.tuples(&accepted.question));
         let otherwise = held.tuples_avoiding(&accepted.question, lost_tags::is_lost);
         Drawn {
             by_lost_tags: answers.difference(&otherwise).cloned().collect(),
             answers,
             left_out,
-            never_ends: held.never_end(&accepted.rules),
+            never_ends: held.never_end(&accepted.rules.written),
             accepted,
             facts,
         }
@@ -174,7 +196,7 @@ pub fn draw(sheets: &Sheets, most: usize) -> Result<Option<Drawn>, u32> {
 }
 
 /// The answers by rounds, from rules, facts and question alone; none if that takes more than `most` things.
-pub fn by_rounds(rules: &[Rule], question: &Question, facts: &[Fact], most: usize) -> Option<BTreeSet<Vec<u16>>> {
+pub fn by_rounds(rules: &[Written], question: &Question, facts: &[Fact], most: usize) -> Option<BTreeSet<Vec<u16>>> {
     let held = Held::rounds(rules, facts, question.atoms.len(), most)?;
     Some(lost_tags::parted(held.tuples(question)).0)
 }
@@ -242,6 +264,15 @@ impl Drawn {
         let members = self.accepted.members.iter().map(|member| &member.question);
         !self.by_lost_tags.is_subset(&first_reader(&tagged, members))
     }
+}
+
+/// Whether the members find a tuple in the facts that takes room, so that an empty list would meet 14 if nothing came before it.
+pub fn finds_a_tuple(sheets: &Sheets) -> bool {
+    let (Ok(accepted), Ok(facts)) = (closed_union(sheets), sheets::facts(&sheets.facts)) else {
+        return false;
+    };
+    let members = accepted.members.iter().map(|member| &member.question);
+    !accepted.question.answers.is_empty() && !first_reader(&facts, members).is_empty()
 }
 
 fn first_reader<'a>(facts: &[Fact], questions: impl Iterator<Item = &'a Question>) -> BTreeSet<Vec<u16>> {

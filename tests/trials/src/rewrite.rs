@@ -61,7 +61,7 @@ fn rewritten(question: &Question, atom: Atom<Term>, rule: Rule) -> Option<Atom<T
 }
 
 /// Equal atoms are kept once.
-fn kept_once(atoms: Vec<Atom<Term>>) -> Vec<Atom<Term>> {
+pub fn kept_once(atoms: Vec<Atom<Term>>) -> Vec<Atom<Term>> {
     let mut kept = Vec::new();
     for atom in atoms {
         if !kept.contains(&atom) {

@@ -1,5 +1,5 @@
-//! The four packed sheets, read bit by bit, and the reciprocal names. What a function here returns is the sheet *as read*: the
-//! higher of two partners has become the lower, with its arguments exchanged. An `Err` holds the number of the refusal.
+//! The packed sheets, read bit by bit, and the reciprocal names; rule_sheet.rs has the rules. What a function here returns is the sheet
+//! *as read*: the higher of two partners has become the lower, with its arguments exchanged. An `Err` holds the number of the refusal.
 
 #[derive(Clone, Copy, PartialEq, Eq, PartialOrd, Ord, Hash, Debug)]
 pub enum Term {
@@ -49,6 +49,7 @@ pub enum Description {
     From(u16),
 }
 
+/// A rule as read.
 #[derive(Clone, Copy, PartialEq, Eq, Debug)]
 pub enum Rule {
     /// Kind 1: each bearer of the left description bears the right one.
@@ -80,7 +81,7 @@ pub const MOST_MEMBERS: usize = 512;
 const PARTNERS: [u16; 16] = [1, 0, 3, 2, 5, 4, 7, 6, 8, 9, 10, 11, 12, 13, 14, 15];
 
 /// A role's lower name, and whether its arguments change places on the way there.
-fn lower(role: u16) -> (u16, bool) {
+pub fn lower(role: u16) -> (u16, bool) {
     match PARTNERS.get(role as usize) {
         Some(&partner) if partner < role => (partner, true),
         _ => (role, false),
@@ -95,18 +96,18 @@ fn role_atom<T>(number: u16, first: T, second: T) -> Atom<T> {
 }
 
 /// Bytes taken as bits, the most significant first.
-struct Bits<'a> {
+pub struct Bits<'a> {
     bytes: &'a [u8],
     at: usize,
 }
 
 impl<'a> Bits<'a> {
-    fn new(bytes: &'a [u8]) -> Self {
+    pub fn new(bytes: &'a [u8]) -> Self {
         Bits { bytes, at: 0 }
     }
 
     /// The next `many` bits as a number; none if the bytes end early.
-    fn take(&mut self, many: usize) -> Option<u32> {
+    pub fn take(&mut self, many: usize) -> Option<u32> {
         let mut number = 0;
         for _ in 0..many {
             let byte = self.bytes.get(self.at / 8)?;
@@ -121,12 +122,13 @@ impl<'a> Bits<'a> {
         (self.take(many)? == 0).then_some(())
     }
 
-    fn ended(&self) -> bool {
+    pub fn ended(&self) -> bool {
         self.at == self.bytes.len() * 8
     }
 }
 
-fn description(form: u32, number: u16) -> Option<Description> {
+/// The description of this form; none if there is none.
+pub fn description(form: u32, number: u16) -> Option<Description> {
     match form {
         0 => Some(Description::Concept(number)),
         1 | 2 => {
@@ -140,40 +142,6 @@ fn description(form: u32, number: u16) -> Option<Description> {
         }
         _ => None,
     }
-}
-
-fn rule(bits: &mut Bits) -> Option<Rule> {
-    let kind = bits.take(4)?;
-    let left_form = bits.take(2)?;
-    let left = bits.take(12)? as u16;
-    let right_form = bits.take(2)?;
-    let right = bits.take(12)? as u16;
-    match (kind, left_form, right_form) {
-        (1, _, _) => Some(Rule::Bears(
-            description(left_form, left)?,
-            description(right_form, right)?,
-        )),
-        (2, 0, 0 | 1) => {
-            let (left, left_flips) = lower(left);
-            let (right, right_flips) = lower(right);
-            let exchanged = (right_form == 1) ^ left_flips ^ right_flips;
-            Some(Rule::Implies { left, right, exchanged })
-        }
-        _ => None,
-    }
-}
-
-/// Refusals 1 and 2.
-pub fn rules(bytes: &[u8]) -> Result<Vec<Rule>, u32> {
-    if bytes.len() % 4 != 0 || bytes.len() > 2048 {
-        return Err(1);
-    }
-    let mut bits = Bits::new(bytes);
-    let mut rules = Vec::new();
-    while !bits.ended() {
-        rules.push(rule(&mut bits).ok_or(2u32)?);
-    }
-    Ok(rules)
 }
 
 fn term(bits: &mut Bits) -> Option<Term> {

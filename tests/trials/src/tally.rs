@@ -1,9 +1,10 @@
 //! Calls the library and compares what it does with what the second implementation expects; counts what kinds of cases were met.
-//! Writing, near misses and dense cases have files of their own.
+//! Writing, pairs and helpers, near misses and dense cases have files of their own.
 
 use crate::dense_counts::DenseCounts;
 use crate::lent::Lent;
 use crate::near_counts::NearCounts;
+use crate::pair_counts::{Call, PairCounts};
 use crate::writing::Writings;
 use trials::chance::Chance;
 use trials::refusals::{self, check, draw, Drawn, Outcome, Sheets};
@@ -18,9 +19,9 @@ pub struct Tally {
     pub calls: u64,
     set_aside: u64,
     accepted: u64,
-    met: [u64; 15],
+    met: [u64; 19],
     /// How often this number decided while a later condition held too.
-    hid: [u64; 15],
+    hid: [u64; 19],
     beyond_member_0: u64,
     never_end: u64,
     need_merge: u64,
@@ -30,6 +31,7 @@ pub struct Tally {
     most_members: usize,
     most_answers: usize,
     pub writings: Writings,
+    pub pairs: PairCounts,
     pub near: NearCounts,
     pub dense: DenseCounts,
     pub differences: usize,
@@ -50,13 +52,15 @@ impl Tally {
         println!("  facts    {}", hex(&sheets.facts));
     }
 
-    pub fn compare_check(&mut self, name: &str, sheets: &Sheets) {
+    /// The number of checking, which is handed back as it must be.
+    pub fn compare_check(&mut self, name: &str, sheets: &Sheets) -> u32 {
         let expected = check(sheets).err().unwrap_or(0);
         let got = library::check(sheets);
         self.calls += 1;
         if got != expected {
             self.differ(name, sheets, "check", &expected.to_string(), &got.to_string());
         }
+        expected
     }
 
     /// Number, count and all bytes of a list that was full of other bytes, and nothing written beside it.
@@ -128,6 +132,7 @@ impl Tally {
         self.never_end += u64::from(drawn.never_ends);
         self.left_out += u64::from(!drawn.left_out.is_empty());
         self.need_lost_tag += u64::from(drawn.needs_lost_tag());
+        self.pairs.count_accepted(sheets, drawn, MOST_THINGS);
         let by_union = drawn.from_facts(accepted.members.iter().map(|member| &member.question));
         if by_union != drawn.answers {
             let told = |tuples| format!("{tuples:?}");
@@ -142,14 +147,17 @@ impl Tally {
         let by_member_0 = drawn.from_facts(std::iter::once(&accepted.question));
         self.beyond_member_0 += u64::from(by_member_0 != drawn.answers);
         if accepted.members.iter().any(|member| member.step.kind == 2) {
-            if let Some(unmerged) = rewrite::plain_closure(&accepted.question, &accepted.rules, false, 2_000) {
+            if let Some(unmerged) = rewrite::plain_closure(&accepted.question, &accepted.rules.read, false, 2_000) {
                 let found = drawn.from_facts(unmerged.iter().map(|(_, question)| question));
                 self.need_merge += u64::from(found != drawn.answers);
             }
         }
     }
 
-    fn count_hidden(&mut self, name: &str, sheets: &Sheets, number: u32) {
+    fn count_refused(&mut self, name: &str, sheets: &Sheets, checked: u32, number: u32) {
+        self.met[number as usize] += 1;
+        self.count_pairs(name, sheets, Call::Checking, checked);
+        self.count_pairs(name, sheets, Call::Drawing, number);
         let conditions = refusals::conditions(sheets);
         self.hid[number as usize] += u64::from(conditions.len() > 1);
         if conditions.first() != Some(&number) {
@@ -165,12 +173,11 @@ impl Tally {
 
     pub fn compare(&mut self, name: &str, sheets: &Sheets, chance: &mut Chance) {
         self.cases += 1;
-        self.compare_check(name, sheets);
+        let checked = self.compare_check(name, sheets);
         self.compare_members(name, sheets, chance);
         match draw(sheets, MOST_THINGS) {
             Err(number) => {
-                self.met[number as usize] += 1;
-                self.count_hidden(name, sheets, number);
+                self.count_refused(name, sheets, checked, number);
                 for length in [0, 1, chance.from(2, 40)] {
                     self.compare_answer(name, sheets, &refusals::refused(number, length), chance);
                 }
@@ -218,7 +225,7 @@ impl Tally {
             println!("{what}: {got} (at least {least})");
             enough &= got >= least;
         };
-        for number in 1..=14 {
+        for number in (1..=14).chain([17, 18]) {
             count(
                 &format!("met {number}, {} times before a later one", self.hid[number]),
                 self.met[number],
@@ -247,7 +254,12 @@ impl Tally {
             self.need_lost_tag,
             100,
         );
-        let others = [self.writings.counts(), self.near.counts(), self.dense.counts()];
+        let others = [
+            self.writings.counts(),
+            self.pairs.counts(),
+            self.near.counts(),
+            self.dense.counts(),
+        ];
         for (what, got, least) in others.concat() {
             count(&what, got, least);
         }

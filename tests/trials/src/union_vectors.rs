@@ -4,7 +4,8 @@ use crate::cards::{cards, hex};
 use crate::chance::Chance;
 use crate::many_members::{fork, taxonomy};
 use crate::refusals::{check, Sheets};
-use crate::sheets::{Description, Question, Rule, Step};
+use crate::rule_sheet::{as_read, Written};
+use crate::sheets::{Description, Question, Step};
 use crate::unions::{reached, refused, union, Union};
 use crate::vectors::{bears, implies, question, A, B, P};
 use crate::write;
@@ -21,9 +22,9 @@ fn step((kind, parent, atom, other): (u8, u16, u8, u16)) -> Step {
 }
 
 /// The union has these members with these steps, in this order and written so.
-fn writes(rules: &[Rule], expected: &[((u8, u16, u8, u16), Question)]) {
+pub fn writes(rules: &[Written], expected: &[((u8, u16, u8, u16), Question)]) {
     let expected: Vec<(Step, Question)> = expected.iter().map(|(s, q)| (step(*s), q.clone())).collect();
-    assert_eq!(reached(&expected[0].1, rules, 512), expected);
+    assert_eq!(reached(&expected[0].1, &as_read(rules), 512), expected);
     let chance = &mut Chance::new(1);
     let sheets = Sheets {
         rules: write::rules(rules, chance),
@@ -34,7 +35,7 @@ fn writes(rules: &[Rule], expected: &[((u8, u16, u8, u16), Question)]) {
     assert!(check(&sheets).is_ok());
 }
 
-fn packed((rules, question): (Vec<Rule>, Question)) -> Result<Union, (u32, bool)> {
+fn packed((rules, question): (Vec<Written>, Question)) -> Result<Union, (u32, bool)> {
     let chance = &mut Chance::new(1);
     union(&write::rules(&rules, chance), &write::question(&question, chance))
 }
@@ -92,7 +93,7 @@ fn atoms_come_before_rules_and_rules_before_pairs() {
         ((2, 0, 1, 2), question("x", &[(A, "x"), (B, "x")])),
     ];
     let expected = members.map(|(s, q)| (step(s), q));
-    assert_eq!(reached(&expected[0].1, &rules, 5), expected);
+    assert_eq!(reached(&expected[0].1, &as_read(&rules), 5), expected);
 }
 
 #[test]

@@ -2,7 +2,9 @@
 //! atoms by the earlier and then the later one; a result alike to no member so far is appended at once, written as its step leaves it.
 
 use crate::alike::Classes;
+use crate::helpers::no_clash;
 use crate::rewrite::{steps, QUESTION_ITSELF};
+use crate::rule_sheet::{self, RuleSheet};
 use crate::sheets::{self, Question, Rule, Step, MOST_MEMBERS};
 use crate::write;
 
@@ -50,18 +52,24 @@ pub fn refused(number: u32, lent: usize) -> Outcome {
 
 /// A union that can be written.
 pub struct Union {
-    pub rules: Vec<Rule>,
+    pub rules: RuleSheet,
     pub members: Vec<(Step, Question)>,
     pub bytes: Vec<u8>,
 }
 
-/// Refusals 1 to 5 and 15, or the union. With 15 comes whether there are 513 unlike questions and no more.
+/// Whether there are more unlike questions than a union may have: refusal 15's condition.
+pub fn too_many(question: &Question, rules: &[Rule]) -> bool {
+    reached(question, rules, MOST_MEMBERS + 1).len() > MOST_MEMBERS
+}
+
+/// Refusals 1 to 5 and 17, then 18 and 15, or the union. With 15 comes whether there are 513 unlike questions and no more.
 pub fn union(rules: &[u8], question: &[u8]) -> Result<Union, (u32, bool)> {
     let alone = |number| (number, false);
-    let rules = sheets::rules(rules).map_err(alone)?;
+    let rules = rule_sheet::rules(rules).map_err(alone)?;
     let question = sheets::question(question).map_err(alone)?;
+    no_clash(&rules.written, &question, &[]).map_err(alone)?;
     // one more than are looked at shows whether 513 are all
-    let members = reached(&question, &rules, MOST_MEMBERS + 2);
+    let members = reached(&question, &rules.read, MOST_MEMBERS + 2);
     if members.len() > MOST_MEMBERS {
         return Err((15, members.len() == MOST_MEMBERS + 1));
     }
@@ -93,7 +101,7 @@ impl Union {
 
     /// How many unlike questions rules alone lead to.
     fn unmerged(&self) -> usize {
-        let by_rules = crate::rewrite::plain_closure(&self.members[0].1, &self.rules, false, MOST_MEMBERS);
+        let by_rules = crate::rewrite::plain_closure(&self.members[0].1, &self.rules.read, false, MOST_MEMBERS);
         by_rules.map_or(usize::MAX, |members| members.len())
     }
 }

@@ -7,6 +7,7 @@ use crate::chance::Chance;
 use crate::chase::Held;
 use crate::refusals::{check, draw, refused, Outcome, Sheets};
 use crate::rewrite::{merged, plain_closure};
+use crate::rule_sheet::{self, as_read, Written};
 use crate::sheets::{self, Atom, Description, Fact, Question, Rule, Term};
 use crate::write;
 use Description::{Concept, From, To};
@@ -18,16 +19,16 @@ pub const P: u16 = 16;
 const R: u16 = 8;
 const S: u16 = 0;
 
-pub fn bears(left: Description, right: Description) -> Rule {
-    Rule::Bears(left, right)
+pub fn bears(left: Description, right: Description) -> Written {
+    Written::Plain(Rule::Bears(left, right))
 }
 
-pub fn implies(left: u16, right: u16) -> Rule {
-    Rule::Implies {
-        left,
-        right,
-        exchanged: false,
-    }
+pub fn implies(left: u16, right: u16) -> Written {
+    implies_either_way(left, right, false)
+}
+
+pub fn implies_either_way(left: u16, right: u16, exchanged: bool) -> Written {
+    Written::Plain(Rule::Implies { left, right, exchanged })
 }
 
 /// Terms from a letter or a digit: u to z are variables 29 to 31, 0, .. in this order: x is 0; a digit is an object.
@@ -77,8 +78,8 @@ fn the_cards() {
 }
 
 /// The closure has these members up to renaming and no others; closing again from the packed sheets is accepted.
-fn closes_to(rules: &[Rule], from: Question, members: &[Question]) {
-    let closure = plain_closure(&from, rules, true, 512).expect("few members");
+pub fn closes_to(rules: &[Written], from: Question, members: &[Question]) {
+    let closure = plain_closure(&from, &as_read(rules), true, 512).expect("few members");
     for member in members {
         assert_eq!(
             closure.iter().filter(|(_, q)| alike(q, member)).count(),
@@ -253,20 +254,11 @@ fn partners_are_read_once() {
     assert_eq!(facts[2], Fact::Role(8, 4, 3));
     assert_eq!(facts[3], Fact::Concept(3, 4));
     // driven by implies fed by: both flip, which is drives implies feeds
-    let rules = sheets::rules(&hex("20 00 40 03")).unwrap();
-    assert_eq!(rules, [implies(0, 2)]);
-    let rules = sheets::rules(&hex("20 00 40 02")).unwrap();
-    assert_eq!(
-        rules,
-        [Rule::Implies {
-            left: 0,
-            right: 2,
-            exchanged: true
-        }]
-    );
+    let written = |bytes: &str| rule_sheet::rules(&hex(bytes)).unwrap().written;
+    assert_eq!(written("20 00 40 03"), [implies(0, 2)]);
+    assert_eq!(written("20 00 40 02"), [implies_either_way(0, 2, true)]);
     // who is driven by something: form 1 of role 1 is form 2 of role 0
-    let rules = sheets::rules(&hex("14 00 60 07")).unwrap();
-    assert_eq!(rules, [bears(From(0), To(6))]);
+    assert_eq!(written("14 00 60 07"), [bears(From(0), To(6))]);
 }
 
 #[test]

@@ -3,12 +3,13 @@
 
 use crate::chance::Chance;
 use crate::refusals::Sheets;
+use crate::rule_sheet::{as_read, Record, Written};
 use crate::sheets::{Atom, Description, Fact, Question, Rule, Step, Term};
 
 /// Four sheets before they are packed.
 #[derive(Clone, Debug)]
 pub struct Draft {
-    pub rules: Vec<Rule>,
+    pub rules: Vec<Written>,
     pub question: Question,
     pub members: Vec<(Step, Question)>,
     pub facts: Vec<Fact>,
@@ -41,16 +42,16 @@ impl Packer {
 }
 
 /// A role as it is written, and whether its arguments change places.
-fn spelled(role: u16, chance: &mut Chance) -> (u32, bool) {
+fn spelled(role: u16, chance: &mut Chance) -> (u16, bool) {
     match role {
-        0 | 2 | 4 | 6 if chance.one_in(2) => (u32::from(role) + 1, true),
-        _ => (u32::from(role), false),
+        0 | 2 | 4 | 6 if chance.one_in(2) => (role + 1, true),
+        _ => (role, false),
     }
 }
 
-fn described(description: Description, chance: &mut Chance) -> (u32, u32) {
+fn described(description: Description, chance: &mut Chance) -> (u32, u16) {
     let (form, role) = match description {
-        Description::Concept(a) => return (0, u32::from(a)),
+        Description::Concept(a) => return (0, a),
         Description::To(p) => (1, p),
         Description::From(p) => (2, p),
     };
@@ -58,28 +59,53 @@ fn described(description: Description, chance: &mut Chance) -> (u32, u32) {
     (if exchanged { 3 - form } else { form }, role)
 }
 
-pub fn rules(rules: &[Rule], chance: &mut Chance) -> Vec<u8> {
+/// A record of this kind, with form and number of either side.
+pub fn record(kind: u32, (left_form, left): (u32, u16), (right_form, right): (u32, u16)) -> Record {
+    Record {
+        kind,
+        left_form,
+        left,
+        right_form,
+        right,
+    }
+}
+
+/// The one or two records of a rule as written.
+pub fn records_of(rule: Written, chance: &mut Chance) -> Vec<Record> {
+    match rule {
+        Written::Plain(Rule::Bears(left, right)) => vec![record(1, described(left, chance), described(right, chance))],
+        Written::Plain(Rule::Implies { left, right, exchanged }) => {
+            let (left, left_flips) = spelled(left, chance);
+            let (right, right_flips) = spelled(right, chance);
+            let form = u32::from(exchanged ^ left_flips ^ right_flips);
+            vec![record(2, (0, left), (form, right))]
+        }
+        Written::Qualified { left, right, filler } => {
+            let role = record(3, described(left, chance), described(right, chance));
+            vec![role, record(4, (0, filler), (0, 0))]
+        }
+    }
+}
+
+pub fn records(records: &[Record]) -> Vec<u8> {
     let mut packer = Packer::default();
-    for &rule in rules {
-        let (kind, left, right) = match rule {
-            Rule::Bears(left, right) => (1, described(left, chance), described(right, chance)),
-            Rule::Implies { left, right, exchanged } => {
-                let (left, left_flips) = spelled(left, chance);
-                let (right, right_flips) = spelled(right, chance);
-                (2, (0, left), (u32::from(exchanged ^ left_flips ^ right_flips), right))
-            }
-        };
-        packer.put(4, kind);
-        packer.put(2, left.0);
-        packer.put(12, left.1);
-        packer.put(2, right.0);
-        packer.put(12, right.1);
+    for record in records {
+        packer.put(4, record.kind);
+        packer.put(2, record.left_form);
+        packer.put(12, u32::from(record.left));
+        packer.put(2, record.right_form);
+        packer.put(12, u32::from(record.right));
     }
     packer.bytes
 }
 
+pub fn rules(rules: &[Written], chance: &mut Chance) -> Vec<u8> {
+    let all = Vec::from_iter(rules.iter().flat_map(|&rule| records_of(rule, chance)));
+    records(&all)
+}
+
 /// A question, its roles written as `spell` says.
-fn put_question(packer: &mut Packer, question: &Question, spell: &mut dyn FnMut(u16) -> (u32, bool)) {
+fn put_question(packer: &mut Packer, question: &Question, spell: &mut dyn FnMut(u16) -> (u16, bool)) {
     packer.put(4, question.answers.len() as u32);
     packer.put(4, question.atoms.len() as u32);
     for &answer in &question.answers {
@@ -98,7 +124,7 @@ fn put_question(packer: &mut Packer, question: &Question, spell: &mut dyn FnMut(
                 let (role, exchanged) = spell(p);
                 let (first, second) = if exchanged { (u, t) } else { (t, u) };
                 packer.put(2, 2);
-                packer.put(12, role);
+                packer.put(12, u32::from(role));
                 packer.term(first);
                 packer.term(second);
             }
@@ -118,10 +144,10 @@ pub fn union(members: &[(Step, Question)], chance: &mut Chance) -> Vec<u8> {
 
 /// A union with roles as read: of two partners the lower.
 pub fn union_as_read(members: &[(Step, Question)]) -> Vec<u8> {
-    union_spelled(members, &mut |role| (u32::from(role), false))
+    union_spelled(members, &mut |role| (role, false))
 }
 
-fn union_spelled(members: &[(Step, Question)], spell: &mut dyn FnMut(u16) -> (u32, bool)) -> Vec<u8> {
+fn union_spelled(members: &[(Step, Question)], spell: &mut dyn FnMut(u16) -> (u16, bool)) -> Vec<u8> {
     let mut packer = Packer::default();
     packer.put(16, members.len() as u32);
     for (step, question) in members {
@@ -148,7 +174,7 @@ pub fn facts(facts: &[Fact], chance: &mut Chance) -> Vec<u8> {
                 let (role, exchanged) = spelled(p, chance);
                 let (first, second) = if exchanged { (u, t) } else { (t, u) };
                 packer.put(4, 8);
-                packer.put(12, role);
+                packer.put(12, u32::from(role));
                 packer.put(16, u32::from(first));
                 packer.put(16, u32::from(second));
             }
@@ -158,6 +184,11 @@ pub fn facts(facts: &[Fact], chance: &mut Chance) -> Vec<u8> {
 }
 
 impl Draft {
+    /// The rules as read, which steps and their indices go by.
+    pub fn rules_as_read(&self) -> Vec<Rule> {
+        as_read(&self.rules)
+    }
+
     pub fn sheets(&self, chance: &mut Chance) -> Sheets {
         Sheets {
             rules: rules(&self.rules, chance),

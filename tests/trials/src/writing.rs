@@ -2,8 +2,10 @@
 //! them, and what it draws is compared with the rounds.
 
 use crate::lent::Lent;
+use crate::pair_counts::Call;
 use crate::tally::Tally;
 use trials::chance::Chance;
+use trials::helpers::Helpers;
 use trials::refusals::{by_rounds, listed, Sheets};
 use trials::sheets::{self, Fact, MOST_MEMBERS};
 use trials::unions::{self, Outcome, Union};
@@ -26,7 +28,7 @@ const LEAST_ANSWERED: u64 = 1_000;
 /// What kinds of cases were met.
 #[derive(Default)]
 pub struct Writings {
-    met: [u64; 17],
+    met: [u64; 19],
     /// 15 with an empty sheet, which is shorter than any union.
     empty_15: u64,
     exactly_512: u64,
@@ -73,11 +75,16 @@ impl Tally {
     /// them where the rounds take too many things.
     fn compare_use(&mut self, name: &str, sheets: &Sheets, union: &Union, chance: &mut Chance) {
         let question = &union.members[0].1;
-        let facts = sheets::facts(&sheets.facts).unwrap_or_else(|_| some_facts(union, chance));
+        let rules = &union.rules.written;
+        let helpers = Helpers::of(rules);
+        let sound = sheets::facts(&sheets.facts)
+            .ok()
+            .filter(|facts| !helpers.stand_in(facts));
+        let facts = sound.unwrap_or_else(|| some_facts(union, helpers, chance));
         let (facts, answers) = [facts.len(), 1, 0]
             .into_iter()
             .map(|many| &facts[..many.min(facts.len())])
-            .find_map(|few| Some((few, by_rounds(&union.rules, question, few, MOST_THINGS)?)))
+            .find_map(|few| Some((few, by_rounds(rules, question, few, MOST_THINGS)?)))
             .expect("rounds without facts take no things");
         let sheets = Sheets {
             rules: sheets.rules.clone(),
@@ -105,6 +112,7 @@ impl Tally {
                 writings.met[number as usize] += 1;
                 writings.empty_15 += u64::from(number == 15);
                 writings.exactly_513 += u64::from(exactly_513);
+                self.count_pairs(name, sheets, Call::Writing, number);
                 let long = chance.one_in(8).then_some(LONGEST);
                 for lent in [0, 1, chance.from(2, 40)].into_iter().chain(long) {
                     self.compare_written(name, sheets, &unions::refused(number, lent), chance);
@@ -156,13 +164,14 @@ fn lengths(length: usize, chance: &mut Chance) -> Vec<usize> {
     lengths
 }
 
-/// Facts that two members match.
-fn some_facts(union: &Union, chance: &mut Chance) -> Vec<Fact> {
+/// Facts that two members match; of a member that uses a helper, those that need none.
+fn some_facts(union: &Union, helpers: Helpers, chance: &mut Chance) -> Vec<Fact> {
     let objects = [3, 5, 8, 65_023, 65_535];
     let mut facts = Vec::new();
     for _ in 0..2 {
         let (_, question) = &union.members[chance.below(union.members.len())];
         facts.extend(make::matched_by(question, &objects, chance));
     }
+    facts.retain(|&fact| !helpers.stand_in(&[fact]));
     facts
 }

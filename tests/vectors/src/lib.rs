@@ -15,6 +15,8 @@ pub struct Case {
     pub facts: Vec<u8>,
     pub list: usize,
     pub output: String,
+    /// What checking gives, where that does not follow from the output.
+    check: Option<u32>,
 }
 
 impl Case {
@@ -36,11 +38,12 @@ impl Case {
         (number, count, list)
     }
 
-    /// The number that checking gives for it: drawing's, if it is one of 1 to 11.
+    /// The number that checking gives for it: that of its file `checked`, else drawing's, if it is one that checking has.
     pub fn checked(&self) -> u32 {
-        match self.outcome().0 {
-            number @ 1..=11 => number,
-            _ => 0,
+        match (self.check, self.outcome().0) {
+            (Some(number), _) => number,
+            (None, number @ (1..=11 | 17 | 18)) => number,
+            (None, _) => 0,
         }
     }
 }
@@ -83,19 +86,19 @@ fn root() -> &'static Path {
 pub fn case(name: &str) -> Case {
     let folder = root().join(name);
     let sheet = |file| hex(&read(&of_case(&folder, file)));
-    let list = folder.join("list");
+    let number = |file: &str| match folder.join(file) {
+        own if own.is_file() => Some(read(&own).trim().parse().expect("a number")),
+        _ => None,
+    };
     Case {
         name: name.to_string(),
         rules: sheet("rules.hex"),
         question: sheet("question.hex"),
         union: sheet("union.hex"),
         facts: sheet("facts.hex"),
-        list: if list.is_file() {
-            read(&list).trim().parse().expect("a length")
-        } else {
-            PROGRAM_LIST
-        },
+        list: number("list").map_or(PROGRAM_LIST, |length| length as usize),
         output: read(&folder.join("output")),
+        check: number("checked"),
     }
 }
 

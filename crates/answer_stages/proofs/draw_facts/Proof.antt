@@ -6,7 +6,8 @@ pub draw-facts-spec : {M : Type 1} → statement M
 draw-facts-spec =
     tie.close
     (tie.spec (λ c. search factLaws) (λ c κs. search factLaws) (λ c κs. search factLaws) (λ c. search factLaws) (λ c. search factLaws)
-    (λ c. search factLaws)
+    (λ c. search factLaws) (λ c κs. (search factLaws, search factLaws)) (λ c κs. search factLaws) (λ c. search factLaws)
+    (λ c. search factLaws) (λ c. search factLaws)
     (λ c κs. (
       search factLaws,
       search factLaws,

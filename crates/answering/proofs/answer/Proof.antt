@@ -8,5 +8,5 @@ answer-spec =
     tie.close
     (tie.spec (λ c κs. search laws) (λ c. search laws) (λ c. search laws) (λ c κs. search laws) (λ c κs. search laws) (λ c. search laws)
     (λ c. with-outcome _ _ _ _ _ _ _ (search laws)) (λ c. search laws) (λ c κs. search laws) (λ c κs. search laws) (λ c. search laws)
-    (λ c. with-outcome _ _ _ _ _ _ _ (search laws)) (λ c. search laws) (λ c. search laws) (λ c κs. (search readLaws, search readLaws))
-    (λ c. search laws) (λ c. with-outcome _ _ _ _ _ _ _ (search laws)))
+    (λ c. with-outcome _ _ _ _ _ _ _ (search laws)) (λ c κs. (search readLaws, search readLaws)) (λ c. search laws) (λ c. search laws)
+    (λ c κs. (search readLaws, search readLaws, search readLaws)) (λ c. search laws) (λ c. with-outcome _ _ _ _ _ _ _ (search laws)))

@@ -7,4 +7,5 @@ check-spec =
     tie.close
     (tie.spec (λ c κs. search laws) (λ c. search laws) (λ c. search laws) (λ c κs. search laws) (λ c. with-meaning _ _ _ _ (search laws))
     (λ c. search laws) (λ c κs. search laws) (λ c. with-meaning _ _ _ _ (search laws)) (λ c. search laws) (λ c. search laws)
-    (λ c κs. (search laws, search laws)) (λ c. with-meaning _ _ _ _ (search laws)))
+    (λ c κs. (search laws, search laws)) (λ c. with-meaning _ _ _ _ (search laws)) (λ c κs. (search laws, search laws))
+    (λ c. with-meaning _ _ _ _ (search laws)) (λ c. with-meaning _ _ _ _ (search laws)))

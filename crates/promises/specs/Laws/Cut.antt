@@ -22,7 +22,7 @@ use Rattle.sheets.specs.Tests.{refuses1, refuses3, refuses6, refuses12}
 use Rattle.sheets.specs.Reading.{rulesAsRead, questionAsRead, unionAsRead}
 use Rattle.sheets.specs.Laws.Tests.{lt-or-le}
 use Rattle.sheets.specs.Laws.QuestionRefusals.{not3-iff, counts-in-range}
-use Rattle.sheets.specs.Laws.OneList.{checking-first, drawing-first}
+use Rattle.sheets.specs.Laws.OneList.{clashRefusals, factClash, drawing-first}
 use Rattle.sheets.specs.Laws.UnionLengths.{too-long}
 use Rattle.promises.specs.Drawing.{Outcome, outcomeBy, outcome, theAnswers, bytesNeeded}
 
@@ -36,7 +36,7 @@ or-true : (b : Bool) → b || true ≡ true
 or-true true = refl
 or-true false = refl
 
-pub long-rules : (s : List ℕ) → mostRuleBytes < length s → firstRefusal (ruleRefusals s) ≡ some 1
+pub long-rules : (s : List ℕ) → mostRuleBytes < length s → firstRefusal (ruleRefusals partners01 sheetWidth s) ≡ some 1
 unfolding firstRefusal ruleRefusals refuses1
 long-rules s h = rw (lt-ltb mostRuleBytes (length s) h, or-true)
 
@@ -80,7 +80,7 @@ one-cut limit s call same =
 -- ---- a call by its sheets' refusals, one after the other
 
 abbrev ofRules : List ℕ → Option ℕ
-ofRules rules = firstRefusal (ruleRefusals rules)
+ofRules rules = firstRefusal (ruleRefusals partners01 sheetWidth rules)
 
 abbrev ofQuestion : List ℕ → Option ℕ
 ofQuestion question = firstRefusal (questionRefusals partners01 sheetWidth question)
@@ -96,24 +96,27 @@ ofUnion rules question union =
 abbrev ofFacts : List ℕ → Option ℕ
 ofFacts facts = firstRefusal (factRefusals sheetWidth facts)
 
+abbrev ofClash : List ℕ → List ℕ → List ℕ → List ℕ → Option ℕ
+ofClash rules question union facts =
+    let sheets : Sheets = record { rules = rules; question = question; union = union; facts = facts } in
+    orElse (firstRefusal (clashRefusals partners01 sheetWidth sheets)) (firstRefusal (factClash partners01 sheetWidth sheets))
+
 module _ (room : ℕ) where
   abbrev ofList : List ℕ → List ℕ → List ℕ → Option ℕ
   ofList question union facts = guard (ltb room (bytesNeeded question union facts)) 14
 
-  -- by what refuses the rules, the question, the union's bytes, the check of the union, the facts and the list, in this order
-  abbrev byRefusals : Option ℕ → Option ℕ → Option ℕ → Option ℕ → Option ℕ → Option ℕ → List (List ℕ) → Outcome
-  byRefusals rules question bytes union facts list answers =
-      outcomeBy room answers (orElse (orElse (orElse rules (orElse question (orElse bytes union))) facts) list)
+  -- by what refuses the rules, the question, the union's bytes, the check of the union and the facts, in this order, and what comes after
+  abbrev byRefusals : Option ℕ → Option ℕ → Option ℕ → Option ℕ → Option ℕ → Option ℕ → Option ℕ → List (List ℕ) → Outcome
+  byRefusals rules question bytes union facts clash list answers =
+      outcomeBy room answers (orElse (orElse (orElse rules (orElse question (orElse bytes union))) (orElse facts clash)) list)
 
   is-by : (r q u f : List ℕ)
       → outcome r q u f room
-      ≡ byRefusals (ofRules r) (ofQuestion q) (ofBytes q u) (ofUnion r q u) (ofFacts f) (ofList q u f) (theAnswers u f)
+      ≡ byRefusals (ofRules r) (ofQuestion q) (ofBytes q u) (ofUnion r q u) (ofFacts f) (ofClash r q u f) (ofList q u f) (theAnswers u f)
   unfolding outcome
   is-by r q u f =
-      let sheets : Sheets = record { rules = r; question = q; union = u; facts = f } in
       ap (λ (o : Option ℕ). outcomeBy room (theAnswers u f) (orElse o (ofList q u f)))
-      (drawing-first partners01 sheetWidth sheets
-      ∙ ap (λ (o : Option ℕ). orElse o (ofFacts f)) (checking-first partners01 sheetWidth sheets))
+      (drawing-first partners01 sheetWidth (record { rules = r; question = q; union = u; facts = f }))
 
   -- ---- what a sheet over its limit comes to: nothing that is looked at after it counts
 
@@ -121,7 +124,8 @@ module _ (room : ℕ) where
   unfolding orElse
   over-rules r q u f h =
       is-by r q u f
-      ∙ ap (λ (o : Option ℕ). byRefusals o (ofQuestion q) (ofBytes q u) (ofUnion r q u) (ofFacts f) (ofList q u f) (theAnswers u f))
+      ∙ ap (λ (o : Option ℕ). byRefusals o (ofQuestion q) (ofBytes q u) (ofUnion r q u) (ofFacts f) (ofClash r q u f) (ofList q u f)
+      (theAnswers u f))
       (long-rules r h)
 
   over-question : (r q u f : List ℕ) → mostQuestionBytes sheetWidth < length q
@@ -129,12 +133,13 @@ module _ (room : ℕ) where
   unfolding orElse
   over-question r q u f h =
       is-by r q u f
-      ∙ ap (λ (o : Option ℕ). byRefusals (ofRules r) o (ofBytes q u) (ofUnion r q u) (ofFacts f) (ofList q u f) (theAnswers u f))
+      ∙ ap (λ (o : Option ℕ). byRefusals (ofRules r) o (ofBytes q u) (ofUnion r q u) (ofFacts f) (ofClash r q u f) (ofList q u f)
+      (theAnswers u f))
       (long-question q h)
       ∙ stop (ofRules r)
     where
       stop : (o : Option ℕ)
-          → byRefusals o (some 3) (ofBytes q u) (ofUnion r q u) (ofFacts f) (ofList q u f) (theAnswers u f)
+          → byRefusals o (some 3) (ofBytes q u) (ofUnion r q u) (ofFacts f) (ofClash r q u f) (ofList q u f) (theAnswers u f)
           ≡ outcomeBy room [] (orElse o (some 3))
       stop none = refl
       stop (some n) = refl
@@ -144,12 +149,13 @@ module _ (room : ℕ) where
   unfolding orElse
   over-union r q u f h =
       is-by r q u f
-      ∙ ap (λ (o : Option ℕ). byRefusals (ofRules r) (ofQuestion q) o (ofUnion r q u) (ofFacts f) (ofList q u f) (theAnswers u f))
+      ∙ ap (λ (o : Option ℕ). byRefusals (ofRules r) (ofQuestion q) o (ofUnion r q u) (ofFacts f) (ofClash r q u f) (ofList q u f)
+      (theAnswers u f))
       (long-union (termCount q 0) u h)
       ∙ stop (ofRules r) (ofQuestion q)
     where
       stop : (o p : Option ℕ)
-          → byRefusals o p (some 6) (ofUnion r q u) (ofFacts f) (ofList q u f) (theAnswers u f)
+          → byRefusals o p (some 6) (ofUnion r q u) (ofFacts f) (ofClash r q u f) (ofList q u f) (theAnswers u f)
           ≡ outcomeBy room [] (orElse o (orElse p (some 6)))
       stop none none = refl
       stop none (some n) = refl
@@ -161,12 +167,14 @@ module _ (room : ℕ) where
   unfolding orElse
   over-facts r q u f h =
       is-by r q u f
-      ∙ ap (λ (o : Option ℕ). byRefusals (ofRules r) (ofQuestion q) (ofBytes q u) (ofUnion r q u) o (ofList q u f) (theAnswers u f))
+      ∙ ap (λ (o : Option ℕ). byRefusals (ofRules r) (ofQuestion q) (ofBytes q u) (ofUnion r q u) o (ofClash r q u f) (ofList q u f)
+      (theAnswers u f))
       (long-facts f h)
       ∙ stop (orElse (ofRules r) (orElse (ofQuestion q) (orElse (ofBytes q u) (ofUnion r q u))))
     where
       stop : (o : Option ℕ)
-          → outcomeBy room (theAnswers u f) (orElse (orElse o (some 12)) (ofList q u f)) ≡ outcomeBy room [] (orElse o (some 12))
+          → outcomeBy room (theAnswers u f) (orElse (orElse o (orElse (some 12) (ofClash r q u f))) (ofList q u f))
+          ≡ outcomeBy room [] (orElse o (some 12))
       stop none = refl
       stop (some n) = refl
 

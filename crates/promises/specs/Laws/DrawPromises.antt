@@ -7,13 +7,13 @@ use mathlib.Core.List.{List}
 use lib.ListN.{length, drop, replicate}
 use Rattle.theory.specs.Lists.{_∈_, Unrepeated}
 use Rattle.theory.specs.Refusals.{First, NoneHolds}
-use Rattle.theory.specs.Chase.{SecondReader}
+use Rattle.theory.specs.QualifiedChase.{SecondReaderAsWritten}
 use Rattle.theory.specs.Evaluation.{Before}
 use Rattle.theory.specs.Laws.Answers.{before-irreflexive, answers-ascending}
 use Rattle.theory.specs.Laws.Ascending.{ascending-unrepeated}
 use Rattle.sheets.specs.AnswerList.{tupleSize, listBytes}
 use Rattle.sheets.specs.Refusals.{numberOf}
-use Rattle.promises.specs.TheSheets.{theRules, theQuestion, theUnion, theFacts, SoundFacts}
+use Rattle.promises.specs.TheSheets.{theWrittenRules, theQuestion, theUnion, theFacts, SoundFacts}
 use Rattle.promises.specs.Checking.{AcceptedFor, SoundAndAccepted}
 use Rattle.promises.specs.Drawing.{theAnswers, termsOf, bytesNeeded, Outcome, outcomeBy, Registered, StandsAt, Listed, allSheets}
 use Rattle.promises.specs.Drawing.{refusalToDraw, allConditions, outcome}
@@ -40,7 +40,7 @@ module _ (rules question union facts : List ℕ) (room : ℕ) where
   along : (n : ℕ) → (drawn .number ≡ n) ↔ (numberOf (refusalToDraw rules question union facts room) ≡ n)
   along n = (λ e. sym number-is ∙ e, λ e. number-is ∙ e)
 
-  -- "The first entry whose condition holds decides, for the earlier ones not holding": 0 where none of 1 to 14 holds, and any other number
+  -- "The first entry whose condition holds decides, for the earlier ones not holding": 0 where none holds, and any other number
   -- is that of the first that holds.
   pub number-means : (n : ℕ) → 0 < n → (drawn .number ≡ n) ↔ First (allConditions rules question union facts room) n
   number-means n positive =
@@ -51,12 +51,12 @@ module _ (rules question union facts : List ℕ) (room : ℕ) where
 
   -- Demand 1: not refused is exactly "a call with sound sheets, an accepted union and a long enough list".
   pub zero-means : (drawn .number ≡ 0)
-      ↔ (SoundAndAccepted rules question union × SoundFacts facts × (bytesNeeded question union facts ≤ room))
+      ↔ (SoundAndAccepted rules question union × SoundFacts rules facts × (bytesNeeded question union facts ≤ room))
   zero-means = Iff·trans (along 0) (zero-sound rules question union facts room (bytesNeeded question union facts))
 
   -- 14 is the number exactly when all that is wrong is the length of the list.
   pub fourteen-means : (drawn .number ≡ 14)
-      ↔ (SoundAndAccepted rules question union × SoundFacts facts × (room < bytesNeeded question union facts))
+      ↔ (SoundAndAccepted rules question union × SoundFacts rules facts × (room < bytesNeeded question union facts))
   fourteen-means = Iff·trans (along 14) (fourteen-sound rules question union facts room (bytesNeeded question union facts))
 
   -- ---- the promises on count and list
@@ -81,6 +81,9 @@ module _ (rules question union facts : List ℕ) (room : ℕ) where
     is-accepted : AcceptedFor rules question union
     is-accepted = zero-accepts rules question union .0 (accepted-means rules question union .1 (zero-means .0 zero .0))
 
+    is-sound : SoundFacts rules facts
+    is-sound = zero-means .0 zero .1
+
     -- "the exact count and every answer [..] the unused bytes zero"
     pub count-means : drawn .count ≡ length (theAnswers union facts)
     count-means = ap (λ (o : Outcome). o .count) is-drawn
@@ -89,15 +92,15 @@ module _ (rules question union facts : List ℕ) (room : ℕ) where
     list-means = ap (λ (o : Outcome). o .list) is-drawn
 
     -- Demand 3: "Where these tuples fit, the list that a call draws has them all and no others": a tuple of registered objects is in the
-    -- list exactly when the question finds it in some round from the facts under the rules.
+    -- list exactly when the question finds it in some round from the facts under the rules as written.
     pub both-readers : (tuple : List ℕ) → Registered tuple
         → Listed (drawn .list) (drawn .count) (termsOf question) tuple
-        ↔ SecondReader (theRules rules) (theQuestion question) (theFacts facts) tuple
+        ↔ SecondReaderAsWritten (theWrittenRules rules) (theQuestion question) (theFacts facts) tuple
     both-readers tuple registered =
         rw (list-means, count-means)
         (Iff·trans (listed-iff (theAnswers union facts) (termsOf question) room
         (answers-known rules question union facts is-accepted) tuple registered)
-        (answers-second rules question union facts is-accepted tuple))
+        (answers-second rules question union facts is-accepted is-sound tuple))
 
     -- "ascending and each once", "and its count is their number": of two places the earlier has the lesser tuple
     pub ascending : (j k : ℕ) (t u : List ℕ) → Registered t → Registered u → j < k → k < drawn .count
@@ -117,14 +120,15 @@ module _ (rules question union facts : List ℕ) (room : ℕ) where
   -- ---- the answers, where the union is accepted: also where they do not fit
 
   -- the first reader's answers are the second's, ascending, each once
-  module _ (accepted : AcceptedFor rules question union) where
+  module _ (accepted : AcceptedFor rules question union) (sound : SoundFacts rules facts) where
     pub answers-are-theirs : (tuple : List ℕ) → (tuple ∈ theAnswers union facts)
-        ↔ SecondReader (theRules rules) (theQuestion question) (theFacts facts) tuple
-    answers-are-theirs = answers-second rules question union facts accepted
+        ↔ SecondReaderAsWritten (theWrittenRules rules) (theQuestion question) (theFacts facts) tuple
+    answers-are-theirs = answers-second rules question union facts accepted sound
 
     -- so that their number, in 14 and in the count, is that of the tuples that the second reader finds
     pub their-number : (tuples : List (List ℕ)) → Unrepeated tuples
-        → ((tuple : List ℕ) → (tuple ∈ tuples) ↔ SecondReader (theRules rules) (theQuestion question) (theFacts facts) tuple)
+        → ((tuple : List ℕ) → (tuple ∈ tuples) ↔ SecondReaderAsWritten (theWrittenRules rules) (theQuestion question)
+        (theFacts facts) tuple)
         → length tuples ≡ length (theAnswers union facts)
     their-number tuples once theirs =
         same-count tuples (theAnswers union facts) once

@@ -3,17 +3,17 @@ use mathlib.Core.Path.{_≡_, refl, sym, ap, _∙_}
 use mathlib.Core.Logic.{inl, inr, _↔_, Iff·trans}
 use Prim.Native.Nat.{ℕ, _≤_, _<_}
 use native.Mathlib.Omega.{arith}
-use mathlib.Core.Bool.{Bool, true, false}
+use mathlib.Core.Bool.{Bool, true, false, not}
 use mathlib.Core.Option.{Option, none, some, orElse}
 use mathlib.Core.List.{List, [], _∷_, _++_, flatMap}
-use lib.Dec.{T, ltb}
+use lib.Dec.{T, eqb, ltb}
 use lib.ListN.{length}
 use Rattle.theory.specs.Lists.{_∈_, Unrepeated, pick, guard, all}
 use Rattle.theory.specs.Refusals.{firstRefusal, First, NoneHolds}
 use Rattle.theory.specs.Syntax.{Member, Fact}
-use Rattle.theory.specs.Chase.{SecondReader}
+use Rattle.theory.specs.Qualified.{refuses18}
+use Rattle.theory.specs.QualifiedChase.{SecondReaderAsWritten}
 use Rattle.theory.specs.Evaluation.{found, insertTuple, answersOf, Before}
-use Rattle.theory.specs.Laws.Agreement.{readers-agree}
 use Rattle.theory.specs.Laws.Options.{T-and, none≢some, some-inj}
 use Rattle.theory.specs.Laws.Lists.{flatMap-found, unrepeated-at}
 use Rattle.theory.specs.Laws.Ascending.{inserted-mem}
@@ -23,13 +23,17 @@ use Rattle.theory.specs.Laws.Answers.{answers-iff, insertTuple-inserts}
 use Rattle.theory.specs.Laws.Bounded.{found-bounded}
 use Rattle.words.specs.Limits.{sheetWidth, objectBound}
 use Rattle.sheets.specs.Partners.{partners01}
-use Rattle.sheets.specs.Refusals.{Sheets, checking, drawing, onlyFacts, refusals, testsFor, refusalOf, numberOf, factRefusals}
-use Rattle.sheets.specs.Laws.Tests.{ltb-tells, lt-or-le}
-use Rattle.sheets.specs.Laws.OneList.{number-zero, checking-first, facts-only, drawn, checked-accepted, refused-iff, passed-iff}
+use Rattle.sheets.specs.Refusals.{Sheets, drawing, refusals, testsFor, refusalOf, numberOf, ruleRefusals, factRefusals}
+use Rattle.sheets.specs.Refusals.{ruleRoles, questionRoles, factRoles}
+use Rattle.sheets.specs.Laws.Tests.{eqb-tells, ltb-tells, lt-or-le}
+use Rattle.sheets.specs.Laws.OneList.{orElse-none, one-none, two-none, number-zero, unclashedFirst, unclashed-none, clashRefusals}
+use Rattle.sheets.specs.Laws.OneList.{factClash}
+use Rattle.sheets.specs.Laws.OneList.{drawing-first, rules-and-facts, checked, checked-accepted, refused-iff, passed-iff}
 use Rattle.sheets.specs.Laws.ObjectRange.{facts-in-range, constants-in-range}
-use Rattle.promises.specs.TheSheets.{theRules, theQuestion, theUnion, theFacts, theRefusal, NotRefused, theConditions, SoundFacts}
+use Rattle.promises.specs.TheSheets.{theWrittenRules, theQuestion, theUnion, theFacts, theRefusal, NotRefused, theConditions}
+use Rattle.promises.specs.TheSheets.{SoundFacts}
 use Rattle.promises.specs.Checking.{sheetsOf, AcceptedFor, SoundAndAccepted}
-use Rattle.promises.specs.Laws.CheckPromises.{zero-accepts, zero-means}
+use Rattle.promises.specs.Laws.CheckPromises.{zero-accepts, zero-means, both-readers-agree}
 use Rattle.promises.specs.Laws.Checking.{numbered}
 use Rattle.promises.specs.Laws.Conditions.{with-last, none-with-last}
 
@@ -55,19 +59,19 @@ only-last (some m) b n h = (λ e. absurd (h e), λ k. absurd (none≢some (sym (
 only-last none true n h = (λ e. (refl, tt), λ k. refl)
 only-last none false n h = (λ e. absurd (none≢some e), λ k. absurd (k .1))
 
--- no test has so high a number
-pub no-such : (bound : ℕ) (tests : List (ℕ × Bool)) → T (all (λ e. ltb (e .0) bound) tests) → ¬ (firstRefusal tests ≡ some bound)
+-- no test has this number
+pub no-such : (n : ℕ) (tests : List (ℕ × Bool)) → T (all (λ e. not (eqb (e .0) n)) tests) → ¬ (firstRefusal tests ≡ some n)
 unfolding all firstRefusal
-no-such bound [] h d = none≢some d
-no-such bound (e ∷ es) h d =
-    let parts = T-and (ltb (e .0) bound) (all (λ e. ltb (e .0) bound) es) .0 h in
-    elim (e .1) as (λ b. pick b (some (e .0)) (firstRefusal es) ≡ some bound → ⊥) [
-      | true ↦ (λ k. let l = ltb-tells (e .0) bound .pass .0 (parts .0) in let m = some-inj k in omega arith)
-      | false ↦ no-such bound es (parts .1)
+no-such n [] h d = none≢some d
+no-such n (e ∷ es) h d =
+    let parts = T-and (not (eqb (e .0) n)) (all (λ e. not (eqb (e .0) n)) es) .0 h in
+    elim (e .1) as (λ b. pick b (some (e .0)) (firstRefusal es) ≡ some n → ⊥) [
+      | true ↦ (λ k. eqb-tells (e .0) n .fail .0 (parts .0) (some-inj k))
+      | false ↦ no-such n es (parts .1)
     ] d
 
 module _ (sheets : Sheets) (room needed : ℕ) where
-  -- 1 to 13, and then 14
+  -- the list's, and then 14
   abbrev pub refusal : Option ℕ
   refusal = orElse (theRefusal drawing sheets) (guard (ltb room needed) 14)
 
@@ -102,30 +106,54 @@ module _ (rules question union facts : List ℕ) where
   abbrev pub four : Sheets
   four = record { rules = rules; question = question; union = union; facts = facts }
 
-  -- checking takes no facts
-  pub checked-same : theRefusal checking four ≡ theRefusal checking (sheetsOf rules question union)
-  checked-same = checking-first partners01 sheetWidth four ∙ sym (checking-first partners01 sheetWidth (sheetsOf rules question union))
-
-  facts-same : theRefusal onlyFacts (record { rules = []; question = []; union = []; facts = facts })
-      ≡ firstRefusal (factRefusals sheetWidth facts)
-  facts-same = facts-only partners01 sheetWidth (record { rules = []; question = []; union = []; facts = facts })
+  -- rules and facts alone
+  abbrev two : Sheets
+  two = record { rules = rules; question = []; union = []; facts = facts }
 
   -- drawing's refusals pass where checking's do and the facts are sound
-  pub drawing-sound : NotRefused drawing four ↔ (AcceptedFor rules question union × SoundFacts facts)
+  pub drawing-sound : NotRefused drawing four ↔ (AcceptedFor rules question union × SoundFacts rules facts)
   drawing-sound =
-      let d = drawn partners01 sheetWidth four in (
-        λ e. let k = d .0 e in (sym checked-same ∙ k .0, facts-same ∙ k .1),
-        λ k. d .1 (checked-same ∙ k .0, sym facts-same ∙ k .1),
+      let B = unclashedFirst partners01 sheetWidth four in
+      let R = firstRefusal (ruleRefusals partners01 sheetWidth rules) in
+      let F = firstRefusal (factRefusals sheetWidth facts) in
+      let K = firstRefusal (clashRefusals partners01 sheetWidth four) in
+      let J = firstRefusal (factClash partners01 sheetWidth four) in
+      let C = firstRefusal ((
+        18,
+        refuses18 (theWrittenRules rules)
+            (ruleRoles partners01 sheetWidth two),
+      ) ∷ factClash partners01 sheetWidth two) in
+      let drawn = drawing-first partners01 sheetWidth four in
+      let sound = rules-and-facts partners01 sheetWidth two in
+      let ok = checked partners01 sheetWidth (sheetsOf rules question union) in
+      let both = two-none 18 18 (refuses18 (theWrittenRules rules) (ruleRoles partners01 sheetWidth four))
+      (refuses18 (theWrittenRules rules) (questionRoles partners01 sheetWidth four)) in
+      let fact = one-none 18 (refuses18 (theWrittenRules rules) (factRoles partners01 sheetWidth four)) in
+      let each = two-none 18 18 (refuses18 (theWrittenRules rules) (ruleRoles partners01 sheetWidth two))
+      (refuses18 (theWrittenRules rules) (factRoles partners01 sheetWidth two)) in (
+        λ e. let (before, later) = orElse-none B (orElse F (orElse K J)) .0 (sym drawn ∙ e) in
+            let (read, clashes) = orElse-none F (orElse K J) .0 later in
+            let (clash, last) = orElse-none K J .0 clashes in (
+              ok .1 (before, clash),
+              sound ∙ orElse-none R (orElse F C) .1 (
+                unclashed-none partners01 sheetWidth four .0 before .0,
+                orElse-none F C .1 (read, each .1 (both .0 clash .0, fact .0 last)),
+              ),
+            ),
+        λ w. let (before, clash) = ok .0 (w .0) in
+            let (read, last) = orElse-none F C .0 (orElse-none R (orElse F C) .0 (sym sound ∙ w .1) .1) in
+            drawn ∙ orElse-none B (orElse F (orElse K J)) .1
+            (before, orElse-none F (orElse K J) .1 (read, orElse-none K J .1 (clash, fact .1 (each .0 last .1)))),
       )
 
   -- in the words of demand 2, and of 01 for the facts
-  all-sound : NotRefused drawing four ↔ (SoundAndAccepted rules question union × SoundFacts facts)
+  all-sound : NotRefused drawing four ↔ (SoundAndAccepted rules question union × SoundFacts rules facts)
   all-sound =
       let s = Iff·trans (zero-accepts rules question union .1, zero-accepts rules question union .0) (zero-means rules question union) in
       Iff·trans drawing-sound (λ k. (s .0 (k .0), k .1), λ k. (s .1 (k .0), k .1))
 
   pub zero-sound : (room needed : ℕ) → (numberOf (refusal four room needed) ≡ 0)
-      ↔ (SoundAndAccepted rules question union × SoundFacts facts × (needed ≤ room))
+      ↔ (SoundAndAccepted rules question union × SoundFacts rules facts × (needed ≤ room))
   zero-sound room needed =
       let b = both-none (theRefusal drawing four) (ltb room needed) 14 in
       let c = ltb-tells room needed .pass in
@@ -138,7 +166,7 @@ module _ (rules question union facts : List ℕ) where
       not-less h = elim (lt-or-le room needed) [ inl l ↦ absurd (h (ltb-tells room needed .pass .1 l)) | inr l ↦ l ]
 
   pub fourteen-sound : (room needed : ℕ) → (numberOf (refusal four room needed) ≡ 14)
-      ↔ (SoundAndAccepted rules question union × SoundFacts facts × (room < needed))
+      ↔ (SoundAndAccepted rules question union × SoundFacts rules facts × (room < needed))
   fourteen-sound room needed =
       Iff·trans (fourteen-iff four room needed) (
         λ k. let d = all-sound .0 (k .0) in
@@ -162,12 +190,12 @@ module _ (rules question union facts : List ℕ) where
         )
 
     -- the answers are the second reader's
-    pub answers-second : (t : List ℕ) → (t ∈ answersOf (theFacts facts) (theUnion union))
-        ↔ SecondReader (theRules rules) (theQuestion question) (theFacts facts) t
-    answers-second t =
+    pub answers-second : SoundFacts rules facts → (t : List ℕ) → (t ∈ answersOf (theFacts facts) (theUnion union))
+        ↔ SecondReaderAsWritten (theWrittenRules rules) (theQuestion question) (theFacts facts) t
+    answers-second sound t =
         let ok = checked-accepted partners01 sheetWidth (sheetsOf rules question union) accepted in
         Iff·trans (answers-iff (theFacts facts) (theUnion union) (λ n k. ok .0 n k .safe) t)
-        (readers-agree (theRules rules) (theQuestion question) (theUnion union) (λ n k. ok .0 n k .distinct) (ok .1) (theFacts facts) t)
+        (both-readers-agree rules question union accepted facts sound t)
 
 -- ---- how many
 

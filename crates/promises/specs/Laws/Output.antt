@@ -16,7 +16,7 @@ use Rattle.words.specs.Limits.{sheetWidth, mostMembers, mostRuleBytes, mostQues
 use Rattle.sheets.specs.Packing.{packUnion}
 use Rattle.sheets.specs.Partners.{partners01}
 use Rattle.sheets.specs.Refusals.{ruleRefusals, questionRefusals}
-use Rattle.sheets.specs.Laws.OneList.{rules-and-question}
+use Rattle.sheets.specs.Laws.OneList.{clashRefusals, writing-first}
 use Rattle.promises.specs.Report.{refusedText, firstLine}
 use Rattle.promises.specs.Writing.{WriteOutcome, writeOutcomeBy, twoSheets, theWritten, unionBytes, writeOutcome}
 use Rattle.promises.specs.Output.{sheetRoom, errorLine, programWrites, outputFor, errorFor}
@@ -55,35 +55,42 @@ module _ (rules question : List ℕ) where
 -- ---- what is read of each file
 
 module _ (room : ℕ) where
-  -- by what refuses the rules and the question
-  abbrev byTwo : Option ℕ → Option ℕ → UCQ → WriteOutcome
-  byTwo r q union =
-      writeOutcomeBy room union
-      (orElse (orElse (orElse r q) (guard (ltb mostMembers (length union)) 15)) (guard (ltb room (length (packUnion sheetWidth union))) 16))
+  -- by what refuses the rules and the question, and what comes after
+  abbrev byThree : Option ℕ → Option ℕ → Option ℕ → UCQ → WriteOutcome
+  byThree r q clash union =
+      writeOutcomeBy room union (orElse (orElse (orElse r (orElse q clash)) (guard (ltb mostMembers (length union)) 15))
+      (guard (ltb room (length (packUnion sheetWidth union))) 16))
 
-  is-by-two : (r q : List ℕ) → writeOutcome r q room
-      ≡ byTwo (firstRefusal (ruleRefusals r)) (firstRefusal (questionRefusals partners01 sheetWidth q)) (theWritten r q)
+  abbrev ofRules : List ℕ → Option ℕ
+  ofRules r = firstRefusal (ruleRefusals partners01 sheetWidth r)
+
+  abbrev ofClash : List ℕ → List ℕ → Option ℕ
+  ofClash r q = firstRefusal (clashRefusals partners01 sheetWidth (twoSheets r q))
+
+  is-by-three : (r q : List ℕ) → writeOutcome r q room
+      ≡ byThree (ofRules r) (firstRefusal (questionRefusals partners01 sheetWidth q)) (ofClash r q) (theWritten r q)
   unfolding writeOutcome
-  is-by-two r q =
+  is-by-three r q =
       ap (λ (o : Option ℕ). writeOutcomeBy room (theWritten r q)
       (orElse (orElse o (guard (ltb mostMembers (length (theWritten r q))) 15)) (guard (ltb room (unionBytes r q)) 16)))
-      (rules-and-question partners01 sheetWidth (twoSheets r q))
+      (writing-first partners01 sheetWidth (twoSheets r q))
 
   over-rules : (r q : List ℕ) → mostRuleBytes < length r → writeOutcome r q room ≡ writeOutcomeBy room [] (some 1)
   unfolding orElse
   over-rules r q h =
-      is-by-two r q
-      ∙ ap (λ (o : Option ℕ). byTwo o (firstRefusal (questionRefusals partners01 sheetWidth q)) (theWritten r q)) (long-rules r h)
+      is-by-three r q
+      ∙ ap (λ (o : Option ℕ). byThree o (firstRefusal (questionRefusals partners01 sheetWidth q)) (ofClash r q) (theWritten r q))
+      (long-rules r h)
 
   over-question : (r q : List ℕ) → mostQuestionBytes sheetWidth < length q
-      → writeOutcome r q room ≡ writeOutcomeBy room [] (orElse (firstRefusal (ruleRefusals r)) (some 3))
+      → writeOutcome r q room ≡ writeOutcomeBy room [] (orElse (ofRules r) (some 3))
   unfolding orElse
   over-question r q h =
-      is-by-two r q
-      ∙ ap (λ (o : Option ℕ). byTwo (firstRefusal (ruleRefusals r)) o (theWritten r q)) (long-question q h)
-      ∙ stop (firstRefusal (ruleRefusals r))
+      is-by-three r q
+      ∙ ap (λ (o : Option ℕ). byThree (ofRules r) o (ofClash r q) (theWritten r q)) (long-question q h)
+      ∙ stop (ofRules r)
     where
-      stop : (o : Option ℕ) → byTwo o (some 3) (theWritten r q) ≡ writeOutcomeBy room [] (orElse o (some 3))
+      stop : (o : Option ℕ) → byThree o (some 3) (ofClash r q) (theWritten r q) ≡ writeOutcomeBy room [] (orElse o (some 3))
       stop none = refl
       stop (some n) = refl
 

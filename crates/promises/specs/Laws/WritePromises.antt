@@ -11,7 +11,8 @@ use lib.ListN.{length, take, drop, replicate, length-append}
 use lib.Seq.{take-append-seam, drop-append-seam}
 use Rattle.theory.specs.Lists.{_∈_, all, guard}
 use Rattle.theory.specs.Refusals.{firstRefusal, First, NoneHolds}
-use Rattle.theory.specs.Chase.{FirstReader, SecondReader}
+use Rattle.theory.specs.Chase.{FirstReader}
+use Rattle.theory.specs.QualifiedChase.{SecondReaderAsWritten}
 use Rattle.theory.specs.Syntax.{Member}
 use Rattle.theory.specs.Union.{Accepted, SoundQuery, SoundUnion}
 use Rattle.theory.specs.Laws.Options.{some-inj, none≢some}
@@ -22,17 +23,19 @@ use Rattle.sheets.specs.Format.{termCount}
 use Rattle.sheets.specs.Partners.{partners01}
 use Rattle.sheets.specs.Packing.{packUnion, unionSheet, All, RulesInRange, QueryInRange}
 use Rattle.sheets.specs.Refusals.{writing, refusals, testsFor, refusalOf, numberOf, ruleRefusals, questionRefusals}
-use Rattle.sheets.specs.Tests.{refuses6}
+use Rattle.sheets.specs.Tests.{refuses6, refuses17}
 use Rattle.sheets.specs.Laws.Tests.{ltb-tells, lt-or-le}
 use Rattle.sheets.specs.Laws.PartnerLaws.{partners01-involutive}
 use Rattle.sheets.specs.Laws.QuestionRefusals.{question-arity}
-use Rattle.sheets.specs.Laws.OneList.{orElse-none, one-none, number-zero, rules-only, rules-and-question, question-and-union, unionRefusals}
+use Rattle.sheets.specs.Laws.OneList.{orElse-none, one-none, number-zero, writing-first, question-and-union, unionRefusals, clashRefusals}
 use Rattle.sheets.specs.Laws.OneList.{checked-accepted, refused-iff, passed-iff}
 use Rattle.sheets.specs.Laws.PackingSheets.{whole-sheet}
-use Rattle.sheets.specs.Laws.StepsInRange.{RuleStands, AtomStands, rules-read-in, question-read-in, rules-read-stand, question-read-stands}
-use Rattle.sheets.specs.Laws.StepsInRange.{rules-unrefused, question-unrefused, sound-question}
+use Rattle.sheets.specs.Laws.StepsInRange.{RuleStands, AtomStands, question-read-in, question-read-stands, question-unrefused}
+use Rattle.sheets.specs.Laws.StepsInRange.{sound-question}
+use Rattle.sheets.specs.Laws.RulesInRange.{rules-read-in, rules-read-stand, helpers-settled, rules-unrefused}
 use Rattle.sheets.specs.Laws.WrittenUnion.{written-in-range, packed-union-length, written-reads, written-passes6}
-use Rattle.promises.specs.TheSheets.{theRules, theQuestion, theUnion, theFacts, theRefusal, theConditions, SoundFacts}
+use Rattle.promises.specs.TheSheets.{theWrittenRules, theRules, theQuestion, theUnion, theFacts, theRefusal, theConditions}
+use Rattle.promises.specs.TheSheets.{SoundFacts}
 use Rattle.promises.specs.Checking.{sheetsOf, checkNumber, AcceptedFor, SoundAndAccepted}
 use Rattle.promises.specs.Drawing.{bytesNeeded, termsOf, Registered, Listed, Drawn}
 use Rattle.promises.specs.Writing.{WriteOutcome, writeOutcomeBy, twoSheets, SoundToWrite, theWritten, TooMany, unionBytes}
@@ -45,23 +48,33 @@ use Rattle.promises.specs.Laws.Drawing.{zero-behind, both-none, only-las
 -- ---- sound sheets
 
 module _ (rules question : List ℕ) (sound : SoundToWrite rules question) where
-  each-sound : (firstRefusal (ruleRefusals rules) ≡ none) × (firstRefusal (questionRefusals partners01 sheetWidth question) ≡ none)
+  each-sound : (firstRefusal (ruleRefusals partners01 sheetWidth rules) ≡ none)
+      × (firstRefusal (questionRefusals partners01 sheetWidth question) ≡ none)
   each-sound =
-      orElse-none (firstRefusal (ruleRefusals rules)) (firstRefusal (questionRefusals partners01 sheetWidth question)) .0
-      (sym (rules-and-question partners01 sheetWidth (twoSheets rules question)) ∙ sound)
+      let R = firstRefusal (ruleRefusals partners01 sheetWidth rules) in
+      let Q = firstRefusal (questionRefusals partners01 sheetWidth question) in
+      let K = firstRefusal (clashRefusals partners01 sheetWidth (twoSheets rules question)) in
+      let (r, later) = orElse-none R (orElse Q K) .0 (sym (writing-first partners01 sheetWidth (twoSheets rules question)) ∙ sound) in
+      (r, orElse-none Q K .0 later .0)
+
+  not17 : ¬ T (refuses17 partners01 sheetWidth rules)
+  not17 = rules-unrefused partners01 sheetWidth rules (each-sound .0) .2
 
   question-is-sound : SoundQuery (termsOf question) (theQuestion question)
   question-is-sound =
       let n = question-unrefused partners01 sheetWidth question (each-sound .1) in sound-question (theQuestion question) (n .1) (n .2)
 
   rules-in : RulesInRange (theRules rules)
-  rules-in = rules-read-in partners01 sheetWidth rules (rules-unrefused rules (each-sound .0) .0)
+  rules-in = rules-read-in partners01 sheetWidth rules not17
 
   question-in : QueryInRange sheetWidth (theQuestion question)
   question-in = question-read-in partners01 sheetWidth question (question-unrefused partners01 sheetWidth question (each-sound .1) .0)
 
   rules-stand : All (RuleStands partners01) (theRules rules)
-  rules-stand = rules-read-stand partners01 partners01-involutive sheetWidth rules
+  unfolding partners01
+  rules-stand =
+      rules-read-stand partners01 partners01-involutive sheetWidth rules
+      (helpers-settled partners01 (omega arith) sheetWidth rules not17)
 
   question-stands : All (AtomStands partners01) (theQuestion question .atoms)
   question-stands = question-read-stands partners01 partners01-involutive sheetWidth question
@@ -98,7 +111,8 @@ module _ (rules question : List ℕ) (sound : SoundToWrite rules question) where
     -- "The written union is one the desk accepts."
     pub packed-accepted : SoundAndAccepted rules question packed
     packed-accepted = (
-      rules-only partners01 sheetWidth (sheetsOf rules question packed) ∙ each-sound .0,
+      writing-first partners01 sheetWidth (sheetsOf rules question packed)
+          ∙ sym (writing-first partners01 sheetWidth (twoSheets rules question)) ∙ sound,
       question-and-union partners01 sheetWidth (sheetsOf rules question packed)
           ∙ orElse-none (firstRefusal (questionRefusals partners01 sheetWidth question))
           (firstRefusal (unionRefusals partners01 sheetWidth (sheetsOf rules question packed))) .1
@@ -158,7 +172,7 @@ module _ (rules question : List ℕ) (room : ℕ) where
   abbrev refusal : Option ℕ
   refusal = refusalToWrite rules question room
 
-  -- the sheets' own numbers are lower
+  -- the sheets' own numbers are others
   not-fifteen : ¬ (theRefusal writing (twoSheets rules question) ≡ some 15)
   unfolding refusalOf refusals testsFor all
   not-fifteen = no-such 15 (testsFor partners01 sheetWidth writing (twoSheets rules question) (refusals partners01 sheetWidth)) tt
@@ -353,7 +367,7 @@ module _ (rules question : List ℕ) (room : ℕ) where
 
 module _ (rules question : List ℕ) (room number count size : ℕ) (sheet : List ℕ)
     (written : UnionWritten rules question room number count size sheet) where
-  -- where none of 1 to 5 holds: 15 exactly where there are more than 512, and 0 or 16 exactly where there are not
+  -- where none of the sheets' own holds: 15 exactly where there are more than 512, and 0 or 16 exactly where there are not
   pub at-most-512 : SoundToWrite rules question → ((number ≡ 0) ⊎ (number ≡ 16)) ↔ (¬ TooMany rules question)
   at-most-512 sound = (
     elim [ inl e ↦ written .zero .0 e .1 | inr e ↦ written .sixteen .0 e .1 ],
@@ -380,8 +394,9 @@ module _ (rules question : List ℕ) (room number count size : ℕ) (sheet : Lis
     check-gives-0 = zero-means rules question union .1 (written .accepted zero)
 
     -- Demand 3 of the union written: whoever has it and the facts alone finds what the second reader finds.
-    pub written-readers-agree : (facts : List ℕ) → SoundFacts facts → (tuple : List ℕ)
-        → FirstReader (theUnion union) (theFacts facts) tuple ↔ SecondReader (theRules rules) (theQuestion question) (theFacts facts) tuple
+    pub written-readers-agree : (facts : List ℕ) → SoundFacts rules facts → (tuple : List ℕ)
+        → FirstReader (theUnion union) (theFacts facts) tuple
+        ↔ SecondReaderAsWritten (theWrittenRules rules) (theQuestion question) (theFacts facts) tuple
     written-readers-agree = both-readers-agree rules question union (zero-accepts rules question union .0 check-gives-0)
 
     -- Whatever union others made for the same rules and question, if it is accepted it has as many members, each alike to one of ours.
@@ -404,13 +419,13 @@ module _ (rules question : List ℕ) (room number count size : ℕ) (sheet : Lis
           (λ m n. theirs .0 m n .distinct) (λ m n. ours .0 m n .distinct)
 
     -- Drawing with it: never refused for anything but the length of the list, and then the list has exactly what the second reader finds.
-    module _ (facts : List ℕ) (sound : SoundFacts facts) (list-room : ℕ) (drawn-number drawn-count : ℕ) (list : List ℕ)
+    module _ (facts : List ℕ) (sound : SoundFacts rules facts) (list-room : ℕ) (drawn-number drawn-count : ℕ) (list : List ℕ)
         (drawn : Drawn rules question union facts list-room drawn-number drawn-count list) where
       pub drawn-with-written : bytesNeeded question union facts ≤ list-room
           → (drawn-number ≡ 0)
           × ((tuple : List ℕ) → Registered tuple
           → Listed list drawn-count (termsOf question) tuple
-          ↔ SecondReader (theRules rules) (theQuestion question) (theFacts facts) tuple)
+          ↔ SecondReaderAsWritten (theWrittenRules rules) (theQuestion question) (theFacts facts) tuple)
       drawn-with-written fits =
           let z = drawn .zero .1 (written .accepted zero, sound, fits) in (z, drawn .readers z)
 

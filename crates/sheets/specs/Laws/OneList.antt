@@ -1,6 +1,6 @@
 -- The one list of refusals against the lists of single sheets: a call that reads the sheets one after another, and stops at the first
 -- refusal, gives the list's first; and the number given is that of the first entry of 01's list whose condition holds.
-use mathlib.Core.Path.{_≡_, refl, sym, ap, _∙_, subst}
+use mathlib.Core.Path.{_≡_, refl, sym, ap, ap₂, _∙_, subst}
 use mathlib.Core.Logic.{_↔_, _≢_, Iff·trans}
 use Prim.Native.Nat.{ℕ}
 use native.Mathlib.Omega.{arith}
@@ -15,14 +15,18 @@ use Rattle.theory.specs.Union.{SoundUnion, Accepted, refuses7, refuses8, refuse
 use Rattle.theory.specs.Laws.Options.{T-and, none≢some}
 use Rattle.theory.specs.Laws.Refusals.{Decides, first-refusal-iff, no-refusal-iff}
 use Rattle.theory.specs.Laws.Union.{check-accepts}
+use Rattle.theory.specs.Qualified.{refuses18, Meets18}
+use Rattle.theory.specs.Laws.QualifiedPlaces.{refuses18-iff}
 use Rattle.theory.specs.Laws.UnionTests.{refuses7-iff, refuses8-iff, refuses9-iff, refuses10-iff, refuses11-iff}
 use Rattle.sheets.specs.Format.{termCount}
-use Rattle.sheets.specs.Refusals.{Sheets, Which, Refusal, within, onlyRules, onlyQuestion, onlyFacts, questionAndUnion, checking}
+use Rattle.sheets.specs.Refusals.{Sheets, Which, Refusal, within, questionAndUnion, checking}
 use Rattle.sheets.specs.Refusals.{drawing, readRules, readQuestion, readUnion, refusals, testsFor, conditionsFor, refusalOf, numberOf}
-use Rattle.sheets.specs.Refusals.{writing, ruleRefusals, questionRefusals, factRefusals}
+use Rattle.sheets.specs.Refusals.{writtenRules, ruleRoles, questionRoles, factRoles, rulesAndFacts, writing, ruleRefusals}
+use Rattle.sheets.specs.Refusals.{questionRefusals, factRefusals}
 use Rattle.sheets.specs.Tests.{refuses6}
 use Rattle.sheets.specs.Laws.Tests.{ltb-tells}
 use Rattle.sheets.specs.Laws.RuleRefusals.{refuses1-iff, refuses2-iff}
+use Rattle.sheets.specs.Laws.PairRefusals.{refuses17-iff}
 use Rattle.sheets.specs.Laws.QuestionRefusals.{refuses3-iff, refuses4-iff, refuses5-twice, question-arity}
 use Rattle.sheets.specs.Laws.UnionRefusals.{refuses6-iff, sound-union}
 use Rattle.sheets.specs.Laws.FactRefusals.{refuses12-iff, refuses13-iff}
@@ -52,6 +56,12 @@ pub one-none : (n : ℕ) (b : Bool) → (firstRefusal ((n, b) ∷ []) ≡ none) 
 unfolding firstRefusal
 one-none n true = (λ e. absurd (none≢some (sym e)), λ f. absurd (f tt))
 one-none n false = (λ e t. t, λ f. refl)
+
+pub two-none : (m n : ℕ) (b c : Bool) → (firstRefusal ((m, b) ∷ (n, c) ∷ []) ≡ none) ↔ ((¬ T b) × (¬ T c))
+unfolding firstRefusal
+two-none m n true c = (λ e. absurd (none≢some (sym e)), λ f. absurd (f .0 tt))
+two-none m n false true = (λ e. absurd (none≢some (sym e)), λ f. absurd (f .1 tt))
+two-none m n false false = (λ e. (λ t. t, λ t. t), λ f. refl)
 
 -- no test has number 0, so that 0 says that none passes
 pub first-positive : (tests : List (ℕ × Bool)) → T (all (λ e. ltb 0 (e .0)) tests) → (numberOf (firstRefusal tests) ≡ 0)
@@ -102,63 +112,81 @@ module _ (partners : List ℕ) (w : ℕ) (sheets : Sheets) where
   abbrev pub unionRefusals : List (ℕ × Bool)
   unionRefusals = (6, refuses6 partners w (termCount (sheets .question) 0) (sheets .union)) ∷ []
 
-  -- "Checking a union uses 1 to 11, drawing answers all."
-  pub checking-tests : testsFor partners w checking sheets (refusals partners w)
-      ≡ ruleRefusals (sheets .rules)
+  -- the clashes that checking and writing judge, and the one with the facts
+  abbrev pub clashRefusals : List (ℕ × Bool)
+  clashRefusals =
+      (18, refuses18 (writtenRules partners w sheets) (ruleRoles partners w sheets))
+      ∷ (18, refuses18 (writtenRules partners w sheets) (questionRoles partners w sheets))
+      ∷ []
+
+  abbrev pub factClash : List (ℕ × Bool)
+  factClash = (18, refuses18 (writtenRules partners w sheets) (factRoles partners w sheets)) ∷ []
+
+  -- what comes before the clashes and the facts: rules, question and union read, then checked
+  abbrev unclashed : List (ℕ × Bool)
+  unclashed =
+      ruleRefusals partners w (sheets .rules)
       ++ (questionRefusals partners w (sheets .question) ++ (unionRefusals ++ unionTests rules question union))
-  unfolding testsFor refusals ruleRefusals questionRefusals
-  checking-tests = refl
 
-  pub drawing-tests : testsFor partners w drawing sheets (refusals partners w) ≡ testsFor partners w checking sheets (refusals partners w)
-      ++ factRefusals w (sheets .facts)
-  unfolding testsFor refusals factRefusals
-  drawing-tests = refl
-
-  -- checking reads rules, question and union, then checks
-  pub checking-first : refusalOf partners w checking sheets
-      ≡ orElse (firstRefusal (ruleRefusals (sheets .rules)))
+  abbrev pub unclashedFirst : Option ℕ
+  unclashedFirst =
+      orElse (firstRefusal (ruleRefusals partners w (sheets .rules)))
       (orElse (firstRefusal (questionRefusals partners w (sheets .question)))
       (orElse (firstRefusal unionRefusals) (check rules question union)))
-  unfolding refusalOf check
-  checking-first =
-      ap firstRefusal checking-tests
-      ∙ first-append (ruleRefusals (sheets .rules))
+
+  unclashed-first : firstRefusal unclashed ≡ unclashedFirst
+  unfolding check
+  unclashed-first =
+      first-append (ruleRefusals partners w (sheets .rules))
       (questionRefusals partners w (sheets .question) ++ (unionRefusals ++ unionTests rules question union))
-      ∙ ap (orElse (firstRefusal (ruleRefusals (sheets .rules))))
+      ∙ ap (orElse (firstRefusal (ruleRefusals partners w (sheets .rules))))
       (first-append (questionRefusals partners w (sheets .question)) (unionRefusals ++ unionTests rules question union)
       ∙ ap (orElse (firstRefusal (questionRefusals partners w (sheets .question))))
       (first-append unionRefusals (unionTests rules question union)))
 
-  -- drawing checks, then reads the facts
+  -- checking: 1, 2, 17, 3 to 11, 18
+  pub checking-first : refusalOf partners w checking sheets ≡ orElse unclashedFirst (firstRefusal clashRefusals)
+  unfolding refusalOf testsFor refusals ruleRefusals questionRefusals
+  checking-first = first-append unclashed clashRefusals ∙ ap (λ o. orElse o (firstRefusal clashRefusals)) unclashed-first
+
+  -- drawing: 1, 2, 17, 3 to 13, 18
   pub drawing-first : refusalOf partners w drawing sheets
-      ≡ orElse (refusalOf partners w checking sheets) (firstRefusal (factRefusals w (sheets .facts)))
-  unfolding refusalOf
+      ≡ orElse unclashedFirst
+      (orElse (firstRefusal (factRefusals w (sheets .facts))) (orElse (firstRefusal clashRefusals) (firstRefusal factClash)))
+  unfolding refusalOf testsFor refusals ruleRefusals questionRefusals factRefusals
   drawing-first =
-      ap firstRefusal drawing-tests ∙ first-append (testsFor partners w checking sheets (refusals partners w))
-      (factRefusals w (sheets .facts))
+      first-append unclashed (factRefusals w (sheets .facts) ++ (clashRefusals ++ factClash))
+      ∙ ap₂ orElse unclashed-first
+      (first-append (factRefusals w (sheets .facts)) (clashRefusals ++ factClash)
+      ∙ ap (orElse (firstRefusal (factRefusals w (sheets .facts)))) (first-append clashRefusals factClash))
 
-  -- a call that takes fewer sheets meets those sheets' refusals
-  pub rules-only : refusalOf partners w onlyRules sheets ≡ firstRefusal (ruleRefusals (sheets .rules))
-  unfolding refusalOf ruleRefusals
-  rules-only = refl
+  -- writing: 1, 2, 17, 3 to 5, 18
+  pub writing-first : refusalOf partners w writing sheets
+      ≡ orElse (firstRefusal (ruleRefusals partners w (sheets .rules)))
+      (orElse (firstRefusal (questionRefusals partners w (sheets .question))) (firstRefusal clashRefusals))
+  unfolding refusalOf testsFor refusals ruleRefusals questionRefusals
+  writing-first =
+      first-append (ruleRefusals partners w (sheets .rules)) (questionRefusals partners w (sheets .question) ++ clashRefusals)
+      ∙ ap (orElse (firstRefusal (ruleRefusals partners w (sheets .rules))))
+      (first-append (questionRefusals partners w (sheets .question)) clashRefusals)
 
-  pub question-only : refusalOf partners w onlyQuestion sheets ≡ firstRefusal (questionRefusals partners w (sheets .question))
-  unfolding refusalOf questionRefusals
-  question-only = refl
-
-  pub facts-only : refusalOf partners w onlyFacts sheets ≡ firstRefusal (factRefusals w (sheets .facts))
-  unfolding refusalOf factRefusals
-  facts-only = refl
-
-  pub rules-and-question : refusalOf partners w writing sheets
-      ≡ orElse (firstRefusal (ruleRefusals (sheets .rules))) (firstRefusal (questionRefusals partners w (sheets .question)))
-  unfolding refusalOf ruleRefusals questionRefusals
-  rules-and-question = first-append (ruleRefusals (sheets .rules)) (questionRefusals partners w (sheets .question))
-
+  -- the other calls, by the sheets that they take
   pub question-and-union : refusalOf partners w questionAndUnion sheets
       ≡ orElse (firstRefusal (questionRefusals partners w (sheets .question))) (firstRefusal unionRefusals)
-  unfolding refusalOf questionRefusals
+  unfolding refusalOf testsFor refusals questionRefusals
   question-and-union = first-append (questionRefusals partners w (sheets .question)) unionRefusals
+
+  pub rules-and-facts : refusalOf partners w rulesAndFacts sheets
+      ≡ orElse (firstRefusal (ruleRefusals partners w (sheets .rules)))
+      (orElse (firstRefusal (factRefusals w (sheets .facts)))
+      (firstRefusal ((18, refuses18 (writtenRules partners w sheets) (ruleRoles partners w sheets)) ∷ factClash)))
+  unfolding refusalOf testsFor refusals ruleRefusals factRefusals
+  rules-and-facts =
+      first-append (ruleRefusals partners w (sheets .rules))
+      (factRefusals w (sheets .facts) ++ ((18, refuses18 (writtenRules partners w sheets) (ruleRoles partners w sheets)) ∷ factClash))
+      ∙ ap (orElse (firstRefusal (ruleRefusals partners w (sheets .rules))))
+      (first-append (factRefusals w (sheets .facts))
+      ((18, refuses18 (writtenRules partners w sheets) (ruleRoles partners w sheets)) ∷ factClash))
 
   -- ---- a call that is not refused
 
@@ -187,36 +215,41 @@ module _ (partners : List ℕ) (w : ℕ) (sheets : Sheets) where
   number-zero takes =
       first-positive (testsFor partners w takes sheets (refusals partners w)) (tests-positive takes (refusals partners w) tt)
 
-  pub checked : (refusalOf partners w checking sheets ≡ none)
-      ↔ ((firstRefusal (ruleRefusals (sheets .rules)) ≡ none) × (firstRefusal (questionRefusals partners w (sheets .question)) ≡ none)
-      × (¬ T (refuses6 partners w (termCount (sheets .question) 0) (sheets .union))) × (check rules question union ≡ none))
-  checked =
-      let R = firstRefusal (ruleRefusals (sheets .rules)) in
+  pub unclashed-positive : (numberOf unclashedFirst ≡ 0) ↔ (unclashedFirst ≡ none)
+  unfolding ruleRefusals questionRefusals all
+  unclashed-positive = subst (λ o. (numberOf o ≡ 0) ↔ (o ≡ none)) unclashed-first (first-positive unclashed tt)
+
+  pub unclashed-none : (unclashedFirst ≡ none)
+      ↔ ((firstRefusal (ruleRefusals partners w (sheets .rules)) ≡ none)
+      × (firstRefusal (questionRefusals partners w (sheets .question)) ≡ none)
+      × (firstRefusal unionRefusals ≡ none) × (check rules question union ≡ none))
+  unclashed-none =
+      let R = firstRefusal (ruleRefusals partners w (sheets .rules)) in
       let Q = firstRefusal (questionRefusals partners w (sheets .question)) in
       let U = firstRefusal unionRefusals in
-      let C = check rules question union in
-      let six = one-none 6 (refuses6 partners w (termCount (sheets .question) 0) (sheets .union)) in
-      Iff·trans (none-along checking-first) (
+      let C = check rules question union in (
         λ e. let r = orElse-none R (orElse Q (orElse U C)) .0 e in
             let q = orElse-none Q (orElse U C) .0 (r .1) in
-            let u = orElse-none U C .0 (q .1) in (r .0, q .0, six .0 (u .0), u .1),
-        λ c. orElse-none R (orElse Q (orElse U C)) .1
-            (c .0, orElse-none Q (orElse U C) .1 (c .1, orElse-none U C .1 (six .1 (c .2), c .3))),
+            let u = orElse-none U C .0 (q .1) in (r .0, q .0, u .0, u .1),
+        λ c. orElse-none R (orElse Q (orElse U C)) .1 (c .0, orElse-none Q (orElse U C) .1 (c .1, orElse-none U C .1 (c .2, c .3))),
       )
 
-  pub drawn : (refusalOf partners w drawing sheets ≡ none)
-      ↔ ((refusalOf partners w checking sheets ≡ none) × (firstRefusal (factRefusals w (sheets .facts)) ≡ none))
-  drawn =
-      Iff·trans (none-along drawing-first)
-      (orElse-none (refusalOf partners w checking sheets) (firstRefusal (factRefusals w (sheets .facts))))
+  pub checked : (refusalOf partners w checking sheets ≡ none) ↔ ((unclashedFirst ≡ none) × (firstRefusal clashRefusals ≡ none))
+  checked = Iff·trans (none-along checking-first) (orElse-none unclashedFirst (firstRefusal clashRefusals))
 
   -- what the agreement of both readers asks
   pub checked-accepted : refusalOf partners w checking sheets ≡ none → SoundUnion question union × Accepted rules question union
   checked-accepted e =
-      let c = checked .0 e in
-      let not6 = subst (λ arity. ¬ T (refuses6 partners w arity (sheets .union))) (sym (question-arity partners w (sheets .question)))
-      (c .2) in
+      let c = unclashed-none .0 (checked .0 e .0) in
+      let six = one-none 6 (refuses6 partners w (termCount (sheets .question) 0) (sheets .union)) .0 (c .2) in
+      let not6 = subst (λ arity. ¬ T (refuses6 partners w arity (sheets .union)))
+      (sym (question-arity partners w (sheets .question))) six in
       (sound-union partners w (sheets .union) question not6, check-accepts rules question union .0 (c .3))
+
+  -- no helper in use stands as a role
+  pub no-clash : (roles : List ℕ) → ¬ T (refuses18 (writtenRules partners w sheets) roles)
+      → ¬ Meets18 (writtenRules partners w sheets) roles
+  no-clash roles f m = f (refuses18-iff (writtenRules partners w sheets) roles .1 m)
 
   -- ---- 01's list: "The first entry whose condition holds decides, for the earlier ones not holding."
 
@@ -225,31 +258,49 @@ module _ (partners : List ℕ) (w : ℕ) (sheets : Sheets) where
   EachDecides [] = Unit {0}
   EachDecides (e ∷ es) = (T (e .test sheets) ↔ e .condition sheets) × EachDecides es
 
+  clash-iff : (roles : List ℕ) → T (refuses18 (writtenRules partners w sheets) roles) ↔ Meets18 (writtenRules partners w sheets) roles
+  clash-iff = refuses18-iff (writtenRules partners w sheets)
+
   every-one : EachDecides (refusals partners w)
   unfolding refusals
-  every-one = (
-    refuses1-iff (sheets .rules),
-    (
-      refuses2-iff (sheets .rules),
-      (
-        refuses3-iff w (sheets .question),
+  every-one =
+      let written = writtenRules partners w sheets in (
+        refuses1-iff (sheets .rules),
         (
-          refuses4-iff question,
+          refuses2-iff (sheets .rules),
           (
-            refuses5-twice question,
+            refuses17-iff partners w (sheets .rules),
             (
-              refuses6-iff partners w (termCount (sheets .question) 0) (sheets .union),
+              refuses3-iff w (sheets .question),
               (
-                refuses7-iff rules question union,
+                refuses4-iff question,
                 (
-                  refuses8-iff rules question union,
+                  refuses5-twice question,
                   (
-                    refuses9-iff rules question union,
+                    refuses6-iff partners w (termCount (sheets .question) 0) (sheets .union),
                     (
-                      refuses10-iff rules question union,
+                      refuses7-iff rules question union,
                       (
-                        refuses11-iff rules question union,
-                        (refuses12-iff w (sheets .facts), (refuses13-iff w (sheets .facts), tt)),
+                        refuses8-iff rules question union,
+                        (
+                          refuses9-iff rules question union,
+                          (
+                            refuses10-iff rules question union,
+                            (
+                              refuses11-iff rules question union,
+                              (
+                                refuses12-iff w (sheets .facts),
+                                (
+                                  refuses13-iff w (sheets .facts),
+                                  (
+                                    clash-iff (ruleRoles partners w sheets),
+                                    (clash-iff (questionRoles partners w sheets), (clash-iff (factRoles partners w sheets), tt)),
+                                  ),
+                                ),
+                              ),
+                            ),
+                          ),
+                        ),
                       ),
                     ),
                   ),
@@ -258,9 +309,7 @@ module _ (partners : List ℕ) (w : ℕ) (sheets : Sheets) where
             ),
           ),
         ),
-      ),
-    ),
-  )
+      )
 
   decided : (takes : Which) (es : List {1} Refusal) → EachDecides es
       → Decides (testsFor partners w takes sheets es) (conditionsFor partners w takes sheets es)
@@ -290,3 +339,11 @@ module _ (partners : List ℕ) (w : ℕ) (sheets : Sheets) where
     unfolding refusalOf
     passed-iff =
         no-refusal-iff (testsFor partners w takes sheets (refusals partners w)) conditionsOf (decided takes (refusals partners w) every-one)
+
+-- 02, T-04, of helpers: "Members may use them." What 18 is judged by is the same whatever the union holds.
+pub members-may-use : (partners : List ℕ) (w : ℕ) (rules question facts union other : List ℕ)
+    → clashRefusals partners w (record { rules = rules; question = question; union = union; facts = facts })
+    ++ factClash partners w (record { rules = rules; question = question; union = union; facts = facts })
+    ≡ clashRefusals partners w (record { rules = rules; question = question; union = other; facts = facts })
+    ++ factClash partners w (record { rules = rules; question = question; union = other; facts = facts })
+members-may-use partners w rules question facts union other = refl

@@ -47,7 +47,7 @@ Has x [] = Unit {0}
 Has x (f ∷ fs) = (field (bits fs) (f .0) x ≡ f .1) × Has x fs
 
 -- what is asked of five fields, from five parts
-five : {A B C D E : Type 0} → A → B → C → D → E → A × (B × (C × (D × (E × Unit {0}))))
+pub five : {A B C D E : Type 0} → A → B → C → D → E → A × (B × (C × (D × (E × Unit {0}))))
 five a b c d e = (a, (b, (c, (d, (e, tt)))))
 
 -- what stands above the fields
@@ -134,25 +134,25 @@ module _ {X : Type 0} (size : ℕ) (fields : X → List (ℕ × ℕ)) (of : ℕ 
 
 -- ---- rules
 
-basic-read : (b : Basic) → basicOf (formOf b) (nameOf b) ≡ b
+pub basic-read : (b : Basic) → basicOf (formOf b) (nameOf b) ≡ b
 unfolding basicOf
 basic-read (named A) = refl
 basic-read (has P) = refl
 basic-read (hasInverse P) = refl
 
-form-below : (b : Basic) → formOf b < 3
+pub form-below : (b : Basic) → formOf b < 3
 form-below (named A) = omega arith
 form-below (has P) = omega arith
 form-below (hasInverse P) = omega arith
 
-form-again : (f n : ℕ) → f < 3 → formOf (basicOf f n) ≡ f
+pub form-again : (f n : ℕ) → f < 3 → formOf (basicOf f n) ≡ f
 unfolding basicOf
 form-again zero n l = refl
 form-again (suc zero) n l = refl
 form-again (suc (suc zero)) n l = refl
 form-again (suc (suc (suc f))) n l = absurd (omega arith)
 
-name-again : (f n : ℕ) → nameOf (basicOf f n) ≡ n
+pub name-again : (f n : ℕ) → nameOf (basicOf f n) ≡ n
 unfolding basicOf
 name-again f n = go (eqb f 0) (eqb f 1)
   where
@@ -308,7 +308,7 @@ module _ (w : ℕ) (wide : 32 ≤ 2 ^ w) where
   pub term-code : Code (2 ^ (w + 1)) (termOf w) (termNumber w) (termSound w) (TermInRange w)
   term-code = by-fields (w + 1) (termFields w) (termOf w) (termSound w) (TermInRange w) term-bits term-fit term-read term-again
 
-object-code : (w : ℕ) → Code (2 ^ w) (λ o. o) (λ o. o) (λ o. true) (λ o. o < 2 ^ w)
+pub object-code : (w : ℕ) → Code (2 ^ w) (λ o. o) (λ o. o) (λ o. true) (λ o. o < 2 ^ w)
 object-code w = record { below = λ o h. h; passes = λ o h. tt; read = λ o h. refl; again = λ x l t. refl; within = λ x l t. l }
 
 -- ---- atoms and facts: kind, zero bits, number, and two arguments of a code that reads m bits

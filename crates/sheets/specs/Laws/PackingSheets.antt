@@ -11,21 +11,19 @@ use mathlib.Core.List.{List, map, map-id, Memᴰ·of-map}
 use lib.Dec.{T, eqb, ltb, lit<}
 use lib.ListN.{length, length-map}
 use Rattle.theory.specs.Lists.{all, numbers}
-use Rattle.theory.specs.Syntax.{Rule, Fact}
+use Rattle.theory.specs.Syntax.{Fact}
 use Rattle.theory.specs.Laws.Options.{T-no}
 use Rattle.theory.specs.Laws.Lists.{all-iff, map-after, numbered-length}
-use Rattle.words.specs.Limits.{sheetWidth, wordWidth, mostRules, mostFacts, ruleBytes, answerBytes, recordBytes}
-use Rattle.words.specs.Records.{isRule, ruleIn, factOf}
+use Rattle.words.specs.Limits.{sheetWidth, wordWidth, mostFacts, answerBytes, recordBytes}
+use Rattle.words.specs.Records.{factOf}
 use Rattle.sheets.specs.Bits.{numberAt}
-use Rattle.sheets.specs.Format.{recordsFrom, ruleRecords, rulesOf, factsOf}
-use Rattle.sheets.specs.Tests.{refuses1, refuses2, refuses12, factSound, refuses13}
-use Rattle.sheets.specs.Packing.{packRecords, packRules, factNumber, packFacts, All, IsByte, RuleInRange, RulesInRange, FactInRange}
-use Rattle.sheets.specs.Packing.{FactsInRange, WholeBytes}
+use Rattle.sheets.specs.Format.{factsOf}
+use Rattle.sheets.specs.Tests.{refuses12, factSound, refuses13}
+use Rattle.sheets.specs.Packing.{packRecords, factNumber, packFacts, All, IsByte, FactInRange, FactsInRange, WholeBytes}
 use Rattle.sheets.specs.Laws.Tests.{Tells, itself, not-tells, or-tells, eqb-tells, ltb-tells}
-use Rattle.sheets.specs.Laws.RuleRefusals.{rules-all}
 use Rattle.sheets.specs.Laws.PackingBytes.{Stands, stands-whole, stands-all, number-below, length-records, recordsAt, EvenPlaces}
 use Rattle.sheets.specs.Laws.PackingBytes.{records-read, records-stand}
-use Rattle.sheets.specs.Laws.PackingNumbers.{Code, rule-code, fact-code, pow-add}
+use Rattle.sheets.specs.Laws.PackingNumbers.{Code, fact-code, pow-add}
 
 -- ---- on lists
 
@@ -91,21 +89,21 @@ module _ {X : Type 0} {of : ℕ → X} {number : X → ℕ} {sound : ℕ → Boo
   values-count : (s : List ℕ) → length (values s) ≡ length s / size
   values-count s = length-map (records s) of ∙ numbered-length (λ i. numberAt s (0 + size * i) size) (length s / size)
 
-  sheet-read : 0 < size → (vs : List X) → All InRange vs → (values (pack vs) ≡ vs) × T (all sound (records (pack vs)))
-  sheet-read pos vs h =
+  pub whole-read : 0 < size → (vs : List X) → All InRange vs → (values (pack vs) ≡ vs) × T (all sound (records (pack vs)))
+  whole-read pos vs h =
       let n : length (pack vs) / size ≡ length vs = ap (λ k. k / size) (length-pack vs) ∙ mul-div-cancel-left (length vs) pos in
       list-read (pack vs) (λ i. 0 + size * i) 0 whole-row (length (pack vs) / size) vs n h (stands-whole (pack vs))
 
-  sheet-passes : (most : ℕ) (vs : List X) → 0 < size → length vs ≤ most → All InRange vs
+  pub whole-passes : (most : ℕ) (vs : List X) → 0 < size → length vs ≤ most → All InRange vs
       → (¬ T (wrongLength size most (pack vs))) × (¬ T (not (all sound (records (pack vs)))))
-  sheet-passes most vs pos l h = (
+  whole-passes most vs pos l h = (
     right-length size most (pack vs) .1 (rw (length-pack vs) (mul-mod-right size (length vs), mul-le-mul-left size l)),
-    unmet (not-tells (itself (all sound (records (pack vs))))) .1 (sheet-read pos vs h .1),
+    unmet (not-tells (itself (all sound (records (pack vs))))) .1 (whole-read pos vs h .1),
   )
 
-  sheet-again : (most : ℕ) (s : List ℕ) → All IsByte s → ¬ T (wrongLength size most s) → ¬ T (not (all sound (records s)))
+  pub whole-again : (most : ℕ) (s : List ℕ) → All IsByte s → ¬ T (wrongLength size most s) → ¬ T (not (all sound (records s)))
       → (pack (values s) ≡ s) × (length (values s) ≤ most) × All InRange (values s)
-  sheet-again most s bytes f g =
+  whole-again most s bytes f g =
       let e = right-length size most s .0 f in
       let n : size * (length s / size) ≡ length s = sym (add-zero (size * (length s / size)))
       ∙ ap (λ r. size * (length s / size) + r) (sym (e .0)) ∙ div-add-mod (length s) size in
@@ -113,29 +111,6 @@ module _ {X : Type 0} {of : ℕ → X} {number : X → ℕ} {sound : ℕ → Boo
       let r = list-again s (λ i. 0 + size * i) 0 whole-row (length s / size) bytes (omega arith)
       (unmet (not-tells (itself (all sound (records s)))) .0 g) in
       (stands-all (pack (values s)) s (r .0) (omega arith), rw (values-count s) (div-le-of-le-mul size (e .1)), r .1)
-
--- ---- rules
-
-pub packed-rules-read : (rules : List Rule) → All RuleInRange rules → rulesOf (packRules rules) ≡ rules
-unfolding recordsFrom packRules
-packed-rules-read rules h = let r = sheet-read ruleBytes rule-code (lit< tt) rules h in rules-all (packRules rules) (r .1) ∙ r .0
-
-pub packed-rules-pass : (rules : List Rule) → RulesInRange rules → (¬ T (refuses1 (packRules rules))) × (¬ T (refuses2 (packRules rules)))
-unfolding recordsFrom packRules refuses1 refuses2
-packed-rules-pass rules h = sheet-passes ruleBytes rule-code mostRules rules (lit< tt) (h .0) (h .1)
-
-module _ (s : List ℕ) (bytes : All IsByte s) (not1 : ¬ T (refuses1 s)) (not2 : ¬ T (refuses2 s)) where
-  all-rules : rulesOf s ≡ map ruleIn (ruleRecords s)
-  unfolding refuses2
-  all-rules = rules-all s (unmet (not-tells (itself (all isRule (ruleRecords s)))) .0 not2)
-
-  pub read-rules-packed : packRules (rulesOf s) ≡ s
-  unfolding packRules recordsFrom refuses1 refuses2
-  read-rules-packed = ap packRules all-rules ∙ sheet-again ruleBytes rule-code mostRules s bytes not1 not2 .0
-
-  pub read-rules-in : RulesInRange (rulesOf s)
-  unfolding recordsFrom refuses1 refuses2
-  read-rules-in = let r = sheet-again ruleBytes rule-code mostRules s bytes not1 not2 in subst RulesInRange (sym all-rules) (r .1, r .2)
 
 -- ---- widths
 
@@ -171,17 +146,17 @@ module _ (w : ℕ) (whole : WholeBytes w) where
 
   pub packed-facts-read : (facts : List Fact) → All (FactInRange w) facts → factsOf w (packFacts w facts) ≡ facts
   unfolding factsOf packFacts
-  packed-facts-read facts h = sheet-read (recordBytes w) facts-code record-pos facts h .0
+  packed-facts-read facts h = whole-read (recordBytes w) facts-code record-pos facts h .0
 
   pub packed-facts-pass : (facts : List Fact) → FactsInRange w facts → (¬ T (refuses12 w (packFacts w facts)))
       × (¬ T (refuses13 w (packFacts w facts)))
   unfolding packFacts refuses12 refuses13
-  packed-facts-pass facts h = sheet-passes (recordBytes w) facts-code mostFacts facts record-pos (h .0) (h .1)
+  packed-facts-pass facts h = whole-passes (recordBytes w) facts-code mostFacts facts record-pos (h .0) (h .1)
 
   pub read-facts-packed : (s : List ℕ) → All IsByte s → ¬ T (refuses12 w s) → ¬ T (refuses13 w s) → packFacts w (factsOf w s) ≡ s
   unfolding packFacts factsOf refuses12 refuses13
-  read-facts-packed s bytes f g = sheet-again (recordBytes w) facts-code mostFacts s bytes f g .0
+  read-facts-packed s bytes f g = whole-again (recordBytes w) facts-code mostFacts s bytes f g .0
 
   pub read-facts-in : (s : List ℕ) → All IsByte s → ¬ T (refuses12 w s) → ¬ T (refuses13 w s) → FactsInRange w (factsOf w s)
   unfolding factsOf refuses12 refuses13
-  read-facts-in s bytes f g = let r = sheet-again (recordBytes w) facts-code mostFacts s bytes f g in (r .1, r .2)
+  read-facts-in s bytes f g = let r = whole-again (recordBytes w) facts-code mostFacts s bytes f g in (r .1, r .2)

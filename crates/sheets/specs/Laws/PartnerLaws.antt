@@ -11,10 +11,11 @@ use lib.ListN.{length, getD, List·getD-eq-default}
 use Rattle.theory.specs.Lists.{_∈_, pick, all, numbers}
 use Rattle.theory.specs.Syntax.{Term, Atom, concept, role, Basic, named, has, hasInverse, Rule, conceptInclusion, roleInclusion, Query}
 use Rattle.theory.specs.Syntax.{args, terms, oriented}
+use Rattle.theory.specs.Qualified.{WrittenRule, plain, qualified}
 use Rattle.theory.specs.Laws.Options.{T-no, either, is-true, is-false, T-eqb, pick-true, pick-false}
 use Rattle.theory.specs.Laws.Lists.{all-iff, numbers-iff}
 use Rattle.theory.specs.Laws.Syntax.{terms-answers, terms-atoms, terms-cases}
-use Rattle.sheets.specs.Partners.{partners01, isHigher, lower, atomAsRead, basicAsRead, ruleAsRead, queryAsRead}
+use Rattle.sheets.specs.Partners.{partners01, isHigher, lower, atomAsRead, basicAsRead, ruleAsRead, writtenAsRead, queryAsRead}
 use Rattle.sheets.specs.Laws.Tests.{ltb-tells, lt-or-le}
 
 -- a role's partner by a table; a role at or above the table's length is its own
@@ -137,6 +138,11 @@ module _ (partners : List ℕ) where
   unfolding basicAsRead
   settled-hasInverse P s = ap₂ (λ h L. pick h (has L) (hasInverse L)) (s .0) (s .1)
 
+  pub settled-roles : (P Q : ℕ) → Settled P → Settled Q → ruleAsRead partners (roleInclusion P false Q) ≡ roleInclusion P false Q
+  unfolding ruleAsRead
+  settled-roles P Q s t =
+      λ i. roleInclusion (s .1 i) (ap₂ (λ h k. xor false (xor h k)) (s .0) (t .0) i) (t .1 i)
+
   -- ---- reading moves terms within an atom, and takes none away and adds none
 
   pub args-asRead : {X : Type 0} (a : Atom X) {x : X} → (x ∈ args (atomAsRead partners a)) ↔ (x ∈ args a)
@@ -217,6 +223,13 @@ module _ (partners : List ℕ) (involutive : Involutive partners) where
       λ i. roleInclusion (lower-settled P .1 i) ((ap₂ (λ h k. xor flips (xor h k)) (lower-settled P .0) (lower-settled Q .0)
       ∙ xor-false flips) i) (lower-settled Q .1 i)
 
+  pub writtenAsRead-again : (w : WrittenRule) → writtenAsRead partners (writtenAsRead partners w) ≡ writtenAsRead partners w
+  unfolding writtenAsRead
+  writtenAsRead-again (plain rule) = ap plain (ruleAsRead-again rule)
+  writtenAsRead-again (qualified left exchanged P filler) =
+      let turned : Bool = xor exchanged (isHigher partners P) in
+      λ i. qualified (basicAsRead-again left i) ((ap (xor turned) (lower-settled P .0) ∙ xor-false turned) i) (lower-settled P .1 i) filler
+
   -- ---- a role gives way to a partner other than itself
 
   pub atom-by-partner : {X : Type 0} (P : ℕ) → partnerOf partners P ≢ P → (x y : X) → atomAsRead partners (role (partnerOf partners P) y x)
@@ -249,6 +262,16 @@ module _ (partners : List ℕ) (involutive : Involutive partners) where
       let other = partner-other P d in
       ap₂ (λ L e. roleInclusion L e (lower partners Q)) (other .1)
       (flip-left exchanged (isHigher partners P) (isHigher partners Q) (other .0))
+
+  -- 02, T-04: the role of a pair likewise
+  pub qualified-by-partner : (left : Basic) (exchanged : Bool) (P filler : ℕ) → partnerOf partners P ≢ P
+      → writtenAsRead partners (qualified left (not exchanged) (partnerOf partners P) filler)
+      ≡ writtenAsRead partners (qualified left exchanged P filler)
+  unfolding writtenAsRead
+  qualified-by-partner left exchanged P filler d =
+      let other = partner-other P d in
+      ap₂ (λ L e. qualified (basicAsRead partners left) e L filler) (other .1)
+      (ap (xor (not exchanged)) (other .0) ∙ xor-not-both exchanged (isHigher partners P))
 
   pub right-by-partner : (P : ℕ) (exchanged : Bool) (Q : ℕ) → partnerOf partners Q ≢ Q
       → ruleAsRead partners (roleInclusion P (not exchanged) (partnerOf partners Q)) ≡ ruleAsRead partners (roleInclusion P exchanged Q)

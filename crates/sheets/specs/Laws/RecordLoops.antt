@@ -49,15 +49,15 @@ module _ (size : ℕ) (s : List ℕ) (from n : ℕ) where
   unfolding numbers numberAt
   left i = map (λ k. numberAt s (from + size * k) size) (numbers i (n - i))
 
-  left-all : left 0 ≡ recordsFrom size s from n
+  pub left-all : left 0 ≡ recordsFrom size s from n
   unfolding left recordsFrom
   left-all = let e : n - 0 ≡ n = omega arith in rw e
 
-  left-next : (i : ℕ) → i < n → left i ≡ numberAt s (from + size * i) size ∷ left (i + 1)
+  pub left-next : (i : ℕ) → i < n → left i ≡ numberAt s (from + size * i) size ∷ left (i + 1)
   unfolding left
   left-next i h = let e : n - i ≡ suc (n - (i + 1)) = omega arith in rw (e, add-one i)
 
-  left-none : (i : ℕ) → n ≤ i → left i ≡ []
+  pub left-none : (i : ℕ) → n ≤ i → left i ≡ []
   unfolding left
   left-none i h = let e : n - i ≡ 0 = omega arith in rw e
 

@@ -1,42 +1,40 @@
 -- Rules and questions that were read are in range, with roles as read; and so is all that steps make of them.
 use mathlib.Core.Path.{_≡_, refl, sym, ap, _∙_, subst}
 use mathlib.Core.Logic.{inl, inr, Iff·rfl}
-use Prim.Native.Nat.{ℕ, _*_, _+_, _/_, _%_, _^_, _≤_, _<_, zero-le}
+use Prim.Native.Nat.{ℕ, _*_, _+_, _/_, _%_, _^_, _≤_, _<_}
 use native.Mathlib.Nat.{mod-lt}
 use native.Mathlib.Decide.{ℕ-discrete, decLt}
 use native.Mathlib.Omega.{arith}
 use mathlib.Core.Bool.{Bool, true, false}
-use mathlib.Core.Option.{Option, none, some}
-use mathlib.Core.List.{List, [], _∷_, map, map-id, flatMap, List·Memᴰ·head, List·Memᴰ·tail, Memᴰ·of-map, Memᴰ·cast}
+use mathlib.Core.Option.{none}
+use mathlib.Core.List.{List, [], _∷_, map, map-id, List·Memᴰ·head, List·Memᴰ·tail, Memᴰ·of-map, Memᴰ·cast}
 use lib.Dec.{T, eqb}
-use lib.ListN.{length, length-map, length-append}
-use Rattle.theory.specs.Lists.{_∈_, pick, toList}
+use lib.ListN.{length, length-map}
+use Rattle.theory.specs.Lists.{_∈_, pick}
 use Rattle.theory.specs.Refusals.{firstRefusal}
 use Rattle.theory.specs.Syntax.{Term, var, const, Atom, concept, role, Basic, named, has, hasInverse, Rule, conceptInclusion}
 use Rattle.theory.specs.Syntax.{roleInclusion, Query, Member, args, oriented, terms}
 use Rattle.theory.specs.Rewriting.{fresh, StepTo}
 use Rattle.theory.specs.Union.{SoundQuery}
-use Rattle.theory.specs.Laws.Options.{guard-some}
-use Rattle.theory.specs.Laws.Lists.{map-agree, mem-toList, flatMap-found, numbered-length}
+use Rattle.theory.specs.Laws.Lists.{map-agree, numbered-length}
 use Rattle.theory.specs.Laws.Syntax.{terms-atoms, terms-answers}
 use Rattle.theory.specs.Laws.Refusals.{no-refusal-iff}
 use Rattle.theory.specs.Laws.Pigeonhole.{fresh-small, terms-few}
 use Rattle.theory.specs.Laws.Rules.{AtomOf, BasicOf, LeftOf}
 use Rattle.theory.specs.Laws.StepShape.{step-arity, step-few, step-some, step-keeps}
-use Rattle.words.specs.Limits.{variableBound, mostTerms, mostAtoms, mostRuleBytes, answerBytes, recordBytes}
-use Rattle.words.specs.Records.{ruleKind, leftForm, leftName, rightForm, rightName, isRule, basicOf, ruleIn, ruleOf, termOf, atomKind}
+use Rattle.words.specs.Limits.{variableBound, mostTerms, mostAtoms, answerBytes, recordBytes}
+use Rattle.words.specs.Records.{termOf, atomKind}
 use Rattle.words.specs.Records.{atomName, atomFirst, atomSecond, atomOf}
 use Rattle.sheets.specs.Bits.{numberAt}
 use Rattle.sheets.specs.Conditions.{CountOut, VariableOut}
-use Rattle.sheets.specs.Format.{recordsFrom, ruleRecords, rulesOf, termCount, atomCount, answerRecords, atomRecords, queryAt}
+use Rattle.sheets.specs.Format.{termCount, atomCount, answerRecords, atomRecords, queryAt}
 use Rattle.sheets.specs.Partners.{isHigher, lower, atomAsRead, basicAsRead, ruleAsRead, queryAsRead, memberAsRead}
-use Rattle.sheets.specs.Reading.{rulesAsRead, questionAsRead}
-use Rattle.sheets.specs.Tests.{refuses1, refuses2, refuses3, refuses4, refuses5}
-use Rattle.sheets.specs.Refusals.{ruleRefusals, questionRefusals}
+use Rattle.sheets.specs.Reading.{questionAsRead}
+use Rattle.sheets.specs.Tests.{refuses3, refuses4, refuses5}
+use Rattle.sheets.specs.Refusals.{questionRefusals}
 use Rattle.sheets.specs.Packing.{nameOf, All, IsName, RuleInRange, RulesInRange, TermInRange, AtomInRange, QueryInRange}
 use Rattle.sheets.specs.Laws.PackingNumbers.{pow-pos}
-use Rattle.sheets.specs.Laws.PartnerLaws.{Involutive, Settled, lower-own, lower-le, settled-atom, atomAsRead-again, ruleAsRead-again}
-use Rattle.sheets.specs.Laws.RuleRefusals.{refuses1-iff}
+use Rattle.sheets.specs.Laws.PartnerLaws.{Involutive, Settled, lower-own, lower-le, settled-atom, atomAsRead-again}
 use Rattle.sheets.specs.Laws.QuestionRefusals.{refuses3-iff, not4-safe, not5-unrepeated}
 
 -- ---- steps stay in range
@@ -85,47 +83,6 @@ module _ (w : ℕ) where
       }
 
 -- ---- what a record says is in range, whatever bytes it has: names and objects are fields of as many bits
-
-basic-in : (form n : ℕ) → IsName n → IsName (nameOf (basicOf form n))
-unfolding basicOf
-basic-in form n h =
-    elim (eqb form 0) as (λ b. IsName (nameOf (pick b (named n) (pick (eqb form 1) (has n) (hasInverse n))))) [
-      | true ↦ h
-      | false ↦ elim (eqb form 1) as (λ b. IsName (nameOf (pick b (has n) (hasInverse n)))) [ true ↦ h | false ↦ h ]
-    ]
-
-rule-in : (x : ℕ) → RuleInRange (ruleIn x)
-unfolding ruleIn
-rule-in x =
-    let left : IsName (leftName x) = omega arith in
-    let right : IsName (rightName x) = omega arith in
-    elim (eqb (ruleKind x) 1) as
-    (λ b. RuleInRange (pick b (conceptInclusion (basicOf (leftForm x) (leftName x)) (basicOf (rightForm x) (rightName x)))
-    (roleInclusion (leftName x) (eqb (rightForm x) 1) (rightName x)))) [
-      | true ↦ (basic-in (leftForm x) (leftName x) left, basic-in (rightForm x) (rightName x) right)
-      | false ↦ (left, right)
-    ]
-
-at-most-one : {Y : Type 0} (o : Option Y) → length (toList o) ≤ 1
-unfolding toList
-at-most-one none = zero-le
-at-most-one (some y) = omega arith
-
-found-few : {X Y : Type 0} (f : X → Option Y) (xs : List X) → length (flatMap (λ x. toList (f x)) xs) ≤ length xs
-unfolding flatMap
-found-few f [] = zero-le
-found-few f (x ∷ xs) =
-    omega (arith, found-few f xs, length-append (toList (f x)) (flatMap (λ x. toList (f x)) xs), at-most-one (f x))
-
-rules-in : (s : List ℕ) → ¬ T (refuses1 s) → RulesInRange (rulesOf s)
-unfolding rulesOf ruleOf recordsFrom
-rules-in s not1 =
-    let few : length (rulesOf s) ≤ length (ruleRecords s) = found-few ruleOf (ruleRecords s) in
-    let many : length (ruleRecords s) ≡ length s / 4 = numbered-length (λ i. numberAt s (0 + 4 * i) 4) (length s / 4) in (
-      elim (decLt mostRuleBytes (length s)) [ yes l ↦ absurd (not1 (refuses1-iff s .1 (inr l))) | no f ↦ omega arith ],
-      λ r m. (let (x, k, n) = flatMap-found (λ x. toList (ruleOf x)) (ruleRecords s) m in
-          subst RuleInRange (guard-some (isRule x) (mem-toList (ruleOf x) .0 n) .1) (rule-in x)),
-    )
 
 module _ (w : ℕ) where
   term-in : (t : ℕ) → ((v : ℕ) → termOf w t ≡ var v → v < variableBound) → TermInRange w (termOf w t)
@@ -254,33 +211,6 @@ module _ (partners : List ℕ) where
         | false ↦ (lower-name P (h .0), h .1, h .2)
       ]
 
-  basic-read-in : (B : Basic) → IsName (nameOf B) → IsName (nameOf (basicAsRead partners B))
-  unfolding basicAsRead
-  basic-read-in (named A) h = h
-  basic-read-in (has P) h =
-      elim (isHigher partners P) as (λ b. IsName (nameOf (pick b (hasInverse (lower partners P)) (has (lower partners P))))) [
-        | true ↦ lower-name P h
-        | false ↦ lower-name P h
-      ]
-  basic-read-in (hasInverse P) h =
-      elim (isHigher partners P) as (λ b. IsName (nameOf (pick b (has (lower partners P)) (hasInverse (lower partners P))))) [
-        | true ↦ lower-name P h
-        | false ↦ lower-name P h
-      ]
-
-  rule-read-in : (rule : Rule) → RuleInRange rule → RuleInRange (ruleAsRead partners rule)
-  unfolding ruleAsRead
-  rule-read-in (conceptInclusion left right) h = (basic-read-in left (h .0), basic-read-in right (h .1))
-  rule-read-in (roleInclusion P exchanged Q) h = (lower-name P (h .0), lower-name Q (h .1))
-
-  pub rules-read-in : (w : ℕ) (s : List ℕ) → ¬ T (refuses1 s) → RulesInRange (rulesAsRead partners w s)
-  unfolding rulesAsRead
-  rules-read-in w s not1 =
-      let h = rules-in s not1 in (
-        rw (length-map (rulesOf s) (ruleAsRead partners)) (h .0),
-        λ rule m. (let (r, k, e) = Memᴰ·of-map (ruleAsRead partners) (rulesOf s) m in subst RuleInRange e (rule-read-in r (h .1 r k))),
-      )
-
   pub question-read-in : (w : ℕ) (s : List ℕ) → ¬ T (refuses3 w s) → QueryInRange w (questionAsRead partners w s)
   unfolding questionAsRead queryAsRead
   question-read-in w s not3 =
@@ -300,11 +230,6 @@ module _ (partners : List ℕ) where
   -- ---- what was read reads as it stands
 
   module _ (involutive : Involutive partners) (w : ℕ) (s : List ℕ) where
-    pub rules-read-stand : All RuleStands (rulesAsRead partners w s)
-    unfolding rulesAsRead
-    rules-read-stand rule m =
-        let (r, k, e) = Memᴰ·of-map (ruleAsRead partners) (rulesOf s) m in subst RuleStands e (ruleAsRead-again partners involutive r)
-
     pub question-read-stands : All AtomStands (questionAsRead partners w s .atoms)
     unfolding questionAsRead queryAsRead
     question-read-stands a m =
@@ -312,12 +237,6 @@ module _ (partners : List ℕ) where
         subst AtomStands e (atomAsRead-again partners involutive b)
 
 -- ---- sheets that are not refused
-
-pub rules-unrefused : (s : List ℕ) → firstRefusal (ruleRefusals s) ≡ none → (¬ T (refuses1 s)) × (¬ T (refuses2 s))
-unfolding ruleRefusals
-rules-unrefused s e =
-    let n = no-refusal-iff (ruleRefusals s) ((1, T (refuses1 s)) ∷ (2, T (refuses2 s)) ∷ []) (refl, Iff·rfl, (refl, Iff·rfl, tt)) .0 e in
-    (n .0, n .1 .0)
 
 pub question-unrefused : (partners : List ℕ) (w : ℕ) (s : List ℕ) → firstRefusal (questionRefusals partners w s) ≡ none
     → (¬ T (refuses3 w s)) × (¬ T (refuses4 (questionAsRead partners w s))) × (¬ T (refuses5 (questionAsRead partners w s)))

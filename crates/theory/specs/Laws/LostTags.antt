@@ -8,9 +8,11 @@ use native.Mathlib.Omega.{arith}
 use mathlib.Core.List.{List, [], map, List·Memᴰ·not-nil, Memᴰ·map, Memᴰ·of-map}
 use lib.Dec.{T, ltb, ltb→lt, lt→ltb}
 use Rattle.theory.specs.Lists.{_∈_}
-use Rattle.theory.specs.Syntax.{const, Rule, Query, Member, UCQ, Fact, Thing, object, value}
+use Rattle.theory.specs.Syntax.{const, Query, Member, UCQ, Fact, Thing, object, value}
 use Rattle.theory.specs.LostTags.{firstLostTag, lastLostTag, mayAnswer, Answerable}
-use Rattle.theory.specs.Chase.{Held, Round, Answer, OfSomeMember, InSomeRound, FirstReader, SecondReader}
+use Rattle.theory.specs.Chase.{Held, Round, Answer, OfSomeMember, FirstReader}
+use Rattle.theory.specs.Qualified.{WrittenRule}
+use Rattle.theory.specs.QualifiedChase.{RoundAsWritten, InSomeRoundAsWritten, SecondReaderAsWritten}
 use Rattle.theory.specs.Laws.Options.{T-or}
 
 -- ---- the objects
@@ -39,7 +41,7 @@ module _ (tuple : List ℕ) (o : ℕ) (holds : o ∈ tuple) (first : 65024 ≤ o
   pub first-passes-over : (union : UCQ) (facts : List Fact) → ¬ FirstReader union facts tuple
   first-passes-over union facts w = lost-tag o first last (w .0 o holds)
 
-  pub second-passes-over : (rules : List Rule) (q : Query) (facts : List Fact) → ¬ SecondReader rules q facts tuple
+  pub second-passes-over : (rules : List WrittenRule) (q : Query) (facts : List Fact) → ¬ SecondReaderAsWritten rules q facts tuple
   second-passes-over rules q facts w = lost-tag o first last (w .0 o holds)
 
 -- ---- one that holds none
@@ -53,16 +55,16 @@ module _ (tuple : List ℕ) (none-lost : (o : ℕ) → o ∈ tuple → (o < 6502
       → FirstReader union facts tuple ↔ ((m : Member) × (m ∈ union) × Answer (Round [] facts 0) (m .query) tuple)
   first-as-before union facts = (λ w. w .1, λ w. (may-be-answer, w))
 
-  pub second-as-before : (rules : List Rule) (q : Query) (facts : List Fact)
-      → SecondReader rules q facts tuple ↔ ((n : ℕ) × Answer (Round rules facts n) q tuple)
+  pub second-as-before : (rules : List WrittenRule) (q : Query) (facts : List Fact)
+      → SecondReaderAsWritten rules q facts tuple ↔ ((n : ℕ) × Answer (RoundAsWritten rules facts n) q tuple)
   second-as-before rules q facts = (λ w. w .1, λ w. (may-be-answer, w))
 
 -- the tuple of a question without answer terms holds none
 pub first-without-terms : (union : UCQ) (facts : List Fact) → FirstReader union facts [] ↔ OfSomeMember union facts []
 first-without-terms = first-as-before [] (λ o m. absurd (List·Memᴰ·not-nil m))
 
-pub second-without-terms : (rules : List Rule) (q : Query) (facts : List Fact)
-    → SecondReader rules q facts [] ↔ InSomeRound rules q facts []
+pub second-without-terms : (rules : List WrittenRule) (q : Query) (facts : List Fact)
+    → SecondReaderAsWritten rules q facts [] ↔ InSomeRoundAsWritten rules q facts []
 second-without-terms = second-as-before [] (λ o m. absurd (List·Memᴰ·not-nil m))
 
 -- ---- one among the answer terms
@@ -79,7 +81,7 @@ literal-stands H q tuple w c m =
     object-same a b e = cc
 
 -- so the question has no answers if it is a lost tag
-pub literal-lost : (rules : List Rule) (q : Query) (facts : List Fact) (tuple : List ℕ) (c : ℕ) → const c ∈ q .answers → 65024 ≤ c
-    → c ≤ 65535 → ¬ SecondReader rules q facts tuple
+pub literal-lost : (rules : List WrittenRule) (q : Query) (facts : List Fact) (tuple : List ℕ) (c : ℕ) → const c ∈ q .answers → 65024 ≤ c
+    → c ≤ 65535 → ¬ SecondReaderAsWritten rules q facts tuple
 literal-lost rules q facts tuple c m first last w =
-    second-passes-over tuple c (literal-stands (Round rules facts (w .1 .0)) q tuple (w .1 .1) c m) first last rules q facts w
+    second-passes-over tuple c (literal-stands (RoundAsWritten rules facts (w .1 .0)) q tuple (w .1 .1) c m) first last rules q facts w

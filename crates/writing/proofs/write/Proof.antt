@@ -7,5 +7,6 @@ write-spec =
     tie.close
     (tie.spec (λ c κs. search laws) (λ c. search laws) (λ c. search laws) (λ c κs. search laws) (λ c κs. search laws) (λ c. search laws)
     (λ c. with-outcome _ _ _ _ _ (search laws)) (λ c. search laws) (λ c κs. search laws) (λ c κs. search laws) (λ c. search laws)
+    (λ c. with-outcome _ _ _ _ _ (search laws)) (λ c κs. (search laws, search laws)) (λ c κs. search laws) (λ c. search laws)
     (λ c. with-outcome _ _ _ _ _ (search laws)) (λ c. search laws) (λ c κs. search laws) (λ c. search laws)
     (λ c. with-outcome _ _ _ _ _ (search laws)))
