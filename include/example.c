@@ -12,6 +12,8 @@ static const uint8_t union_sheet[] = {
     /* member 1: rule 0 on member 0's atom 0 gives "x is a concept 1" */
     0x40, 0x00, 0x00, 0x00, 0x11, 0x00, 0x00, 0x00, 0x00, 0x04, 0x00, 0x00, 0x00, 0x00};
 static const uint8_t facts[] = {0x00, 0x01, 0x00, 0x07, 0x00, 0x00, 0x80, 0x01, 0x00, 0x09, 0x00, 0x03};
+/* the question in other names: variable 5 of "5 is driven by 2" */
+static const uint8_t asked_otherwise[] = {0x11, 0x00, 0x00, 0x05, 0x80, 0x04, 0x00, 0x0a, 0x00, 0x02};
 
 /* Draws into a list of so many bytes and prints what came. */
 static void draw(uint8_t *list, size_t length)
@@ -41,6 +43,20 @@ static void write_union(size_t length)
            same ? "the union above" : "another union");
 }
 
+/* Compares the question with another and prints the renaming, if there is one. */
+static void compare(const uint8_t *other, size_t length)
+{
+    struct takwishan_renaming renaming = takwishan_rename(question, sizeof question, other, length);
+    if (renaming.number != TAKWISHAN_ACCEPTED) {
+        printf("refused %u\n", (unsigned)renaming.number);
+        return;
+    }
+    puts(renaming.found ? "alike" : "not alike");
+    for (unsigned v = 0; v <= TAKWISHAN_MOST_VARIABLE; v++)
+        if (renaming.targets[v] != TAKWISHAN_NO_TARGET)
+            printf("variable %u is %u\n", v, (unsigned)renaming.targets[v]);
+}
+
 int main(void)
 {
     uint8_t list[4];
@@ -53,5 +69,9 @@ int main(void)
     printf("member 2 is %zu bytes from byte %zu\n", part.length, part.start);
     write_union(TAKWISHAN_MOST_UNION_BYTES);
     write_union(sizeof union_sheet - 1);
+    compare(asked_otherwise, sizeof asked_otherwise);
+    part = takwishan_member(union_sheet, sizeof union_sheet, 1);
+    compare(union_sheet + part.start, part.length);
+    compare(rules, sizeof rules);
     return 0;
 }

@@ -1,6 +1,7 @@
 /*
  * Takwishan for C: a union of conjunctive queries written for rules and question, or checked against them, answers drawn with it from
- * facts, and a member of a union shown. Link with target/lib/libtakwishan.a, which `make lib` writes (x86-64 Linux).
+ * facts, a member of a union shown, and two questions compared. Link with target/lib/libtakwishan.a, which `make lib` writes (x86-64
+ * Linux).
  *
  * A sheet is a pointer and a length in bytes. The pointer must not be null and must be good for reading so many bytes, also where the
  * length is 0; nothing may write them during the call. What is lent for writing, the list or the union's sheet, must be good for writing
@@ -18,7 +19,7 @@ extern "C" {
 #endif
 
 /* The version of header and library; CHANGELOG.md says what changed. */
-#define TAKWISHAN_VERSION "0.11.0"
+#define TAKWISHAN_VERSION "0.12.0"
 
 /* The longest sheets, in bytes; a longer one is refused. */
 enum {
@@ -54,9 +55,15 @@ enum {
     TAKWISHAN_FIRST_HELPER = 4095
 };
 
+/* What a renaming has in place of a target: no variable has this number. */
+enum {
+    TAKWISHAN_NO_TARGET = 32
+};
+
 /*
  * What is refused: the first entry whose condition holds decides, for the earlier ones not holding. The order is that of the numbers, but
- * 17 comes after 2, and 18 after 13 when drawing, after 11 when checking, and after 5 when writing a union.
+ * 17 comes after 2, and 18 after 13 when drawing, after 11 when checking, and after 5 when writing a union. Of two questions that are
+ * compared the first is judged by 3 to 5 before the second.
  */
 enum takwishan_number {
     /* Not refused. */
@@ -122,6 +129,13 @@ struct takwishan_part {
     size_t length;
 };
 
+/* What a call that compares two questions gives. */
+struct takwishan_renaming {
+    uint32_t number;     /* 0, or the number of the refusal */
+    uint32_t found;      /* 1 if there is a renaming; 0 if there is none, and on a refusal */
+    uint8_t targets[32]; /* where variable 0, 1, .., 31 of the first question goes, or TAKWISHAN_NO_TARGET */
+};
+
 /*
  * Checks a union against rules and question: the number of the first refusal of 1, 2, 17, 3 to 11 and 18 that applies, in this order, or 0
  * where the union is accepted. There are no facts here: where only a fact has a helper for its role this gives 0, and drawing gives 18.
@@ -153,6 +167,17 @@ struct takwishan_written takwishan_write(const uint8_t *rules, size_t rules_leng
 /* The part of a union sheet that holds the question of a member, counted from 0. Its length is 0, and its start too, if the sheet meets 6
  * on its own (term counts being compared with member 0's) or has no such member. */
 struct takwishan_part takwishan_member(const uint8_t *union_sheet, size_t union_length, size_t member);
+
+/*
+ * Compares two questions: whether they are alike, and by which names. A renaming goes from the first to the second. It gives each variable
+ * of the first a variable of the second, no two the same one, so that the answer terms become the second's in their order, and the atoms
+ * become its atoms in whatever order; objects stay what they are. Both are compared as read: driven by(x,y) is drives(y,x). Where there is
+ * a renaming `found` is 1 and targets[v] is the variable that v goes to, or TAKWISHAN_NO_TARGET if v does not stand in the first question.
+ * Of several it is the one whose list of targets, taken by rising v, is smallest. Where there is none `found` is 0 and every place is
+ * TAKWISHAN_NO_TARGET; so it is on a refusal. Refusals are 3, 4 and 5 for the first sheet and then 3, 4 and 5 for the second, in this
+ * order: 5 of the first comes before 3 of the second. The two sheets may be one.
+ */
+struct takwishan_renaming takwishan_rename(const uint8_t *first, size_t first_length, const uint8_t *second, size_t second_length);
 
 #ifdef __cplusplus
 }

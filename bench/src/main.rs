@@ -1,10 +1,12 @@
-//! The proved library beside plain Rust programs: `bench` runs all benchmarks, `bench readers`, `bench check` and `bench write` one of
-//! them, `bench compare` compares numbers on random sheets, `bench cards` checks 01's cards, `bench search` looks for bad sheets.
+//! The proved library beside plain Rust programs: `bench` runs all benchmarks, `bench readers`, `bench check`, `bench write` and `bench
+//! rename` one of them, `bench compare` compares numbers on random sheets, `bench cards` checks 01's cards, `bench search` looks for bad
+//! sheets.
 //! Nothing about time is asserted.
 mod check;
 mod plain;
 mod proved;
 mod readers;
+mod rename;
 mod sheets;
 mod write;
 
@@ -34,16 +36,20 @@ fn main() {
             check::compare::run(3_000);
             check::measure::run();
             write::run(3_000);
+            rename::run(3_000);
         }
         Some("readers") => readers::run(),
         Some("cards") => check::cards::run(),
         Some("compare") => check::compare::run(30_000),
         Some("check") => check::measure::run(),
         Some("write") => write::run(30_000),
+        Some("rename") => rename::run(30_000),
         Some("search") => check::search::run(),
         Some("once") => check::measure::once(),
         Some(other) => {
-            eprintln!("bench: no mode {other}: readers, cards, compare, check, write or search");
+            eprintln!(
+                "bench: no mode {other}: readers, cards, compare, check, write, rename or search"
+            );
             std::process::exit(2);
         }
     }

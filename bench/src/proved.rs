@@ -1,6 +1,6 @@
-//! The proved readers, the proved check and the proved writer, as the static libraries have them, each in a safe function that tests what its contract
-//! requires.
-use crate::{write::Written, Read, MOST_FACTS, MOST_MEMBERS, ROW};
+//! The proved readers, check, writer and comparison, as the static libraries have them, each in a safe function that tests what its
+//! contract requires.
+use crate::{rename::Renaming, write::Written, Read, MOST_FACTS, MOST_MEMBERS, ROW};
 
 extern "C" {
     fn takwishan_bench_facts(
@@ -39,6 +39,18 @@ extern "C" {
         sheet: *mut u8,
         sheet_len: usize,
     ) -> Written;
+
+    fn takwishan_rename(
+        first: *const u8,
+        first_length: usize,
+        second: *const u8,
+        second_length: usize,
+    ) -> Renaming;
+}
+
+/// The smallest renaming that carries the first question to the second. It requires nothing.
+pub fn rename(first: &[u8], second: &[u8]) -> Renaming {
+    unsafe { takwishan_rename(first.as_ptr(), first.len(), second.as_ptr(), second.len()) }
 }
 
 /// Writes the union of rules and question into the sheet. It requires nothing.

@@ -1,5 +1,5 @@
 //! Takwishan for Rust: a union of conjunctive queries written for rules and question, or checked against them, answers drawn with it from
-//! facts, and a member of a union shown.
+//! facts, a member of a union shown, and two questions compared.
 //!
 //! The work is done by a proved library (`make lib`); this crate only hands slices over. Every sheet of every length and
 //! content is answered: nothing panics or blocks, and only [`write()`] allocates. A call needs less than one megabyte of stack.
@@ -35,7 +35,7 @@ pub mod limits;
 mod linked;
 mod refusal;
 
-pub use linked::{Answers, WriteOutcome};
+pub use linked::{Answers, RenameOutcome, WriteOutcome};
 pub use refusal::Refusal;
 
 /// The version of wrapper, header and library; CHANGELOG.md says what changed.
@@ -136,6 +136,42 @@ pub fn write_outcome(rules: &[u8], question: &[u8], sheet: &mut [u8]) -> WriteOu
 pub fn member(union: &[u8], m: usize) -> &[u8] {
     let part = linked::member(union, m);
     &union[part.start..part.start + part.length]
+}
+
+/// Compares two questions: whether they are alike, and by which names. Gives the renaming from the first to the second, or `None` if there
+/// is none.
+///
+/// A renaming gives each variable of the first question a variable of the second, no two the same one, so that the answer terms become the
+/// second's in their order, and the atoms become its atoms in whatever order; objects stay what they are. Both are compared as read: driven
+/// by(x,y) is drives(y,x). Place `v` has the variable that `v` goes to, or [`limits::NO_TARGET`] if `v` does not stand in the first
+/// question. Of several renamings it is the one whose list of targets, taken by rising variable, is smallest.
+///
+/// It is refused with the first of 3, 4 and 5 that applies to the first sheet, else with the first of them that applies to the second: 5
+/// of the first comes before 3 of the second.
+///
+/// ```
+/// use takwishan::limits::NO_TARGET;
+///
+/// let question = [0x11, 0x00, 0x00, 0x00, 0x80, 0x00, 0x00, 0x02, 0x00, 0x00]; // v0 of drives(v1,v0)
+/// let asked_otherwise = [0x11, 0x00, 0x00, 0x05, 0x80, 0x04, 0x00, 0x0a, 0x00, 0x02]; // v5 of driven by(v5,v2)
+/// let targets = takwishan::rename(&question, &asked_otherwise)?.expect("they are alike");
+/// assert_eq!(targets[..2], [5, 2]);
+/// assert_eq!(targets[2..], [NO_TARGET; 30]);
+///
+/// let concept_1 = [0x11, 0x00, 0x00, 0x00, 0x00, 0x04, 0x00, 0x00, 0x00, 0x00];
+/// assert_eq!(takwishan::rename(&question, &concept_1)?, None);
+/// # Ok::<(), takwishan::Refusal>(())
+/// ```
+pub fn rename(first: &[u8], second: &[u8]) -> Result<Option<[u8; 32]>, Refusal> {
+    let compared = rename_outcome(first, second);
+    given(compared.number)?;
+    Ok((compared.found != 0).then_some(compared.targets))
+}
+
+/// The same as the library gives it: the number, 0 or the refusal's; 1 if there is a renaming, else 0; and the targets, in every place
+/// [`limits::NO_TARGET`] if there is none, and on a refusal.
+pub fn rename_outcome(first: &[u8], second: &[u8]) -> RenameOutcome {
+    linked::rename(first, second)
 }
 
 /// A number of the library as a result.

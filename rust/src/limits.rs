@@ -1,4 +1,5 @@
-//! The limits of the sheets, beyond which one is refused; the objects that are in no answer; and the first helper role.
+//! The limits of the sheets, beyond which one is refused; the objects that are in no answer; the first helper role; and what a renaming
+//! has in place of a target.
 
 /// The longest rule sheet: 512 records of 4 bytes.
 pub const MOST_RULE_BYTES: usize = 2_048;
@@ -32,3 +33,6 @@ pub const LOST_TAGS: std::ops::RangeInclusive<u16> = 65_024..=65_535;
 /// The helper role of a sheet's first kind 3 with its kind 4; the next has the number below, and so on down. Members of a union may use
 /// helpers; as a role of a written rule, the question or a fact one is refused ([`Refusal::HelperAsRole`](crate::Refusal::HelperAsRole)).
 pub const FIRST_HELPER: u16 = 4_095;
+
+/// What a renaming has in place of a target: no variable has this number.
+pub const NO_TARGET: u8 = 32;

@@ -29,6 +29,18 @@ pub struct Part {
     pub length: usize,
 }
 
+/// What comparing two questions gives.
+#[repr(C)]
+#[derive(Clone, Copy, Debug, PartialEq, Eq)]
+pub struct RenameOutcome {
+    /// 0, or the number of the refusal.
+    pub number: u32,
+    /// 1 if there is a renaming; 0 if there is none, and on a refusal.
+    pub found: u32,
+    /// Where variable 0, 1, .., 31 of the first question goes, or [`NO_TARGET`](crate::limits::NO_TARGET).
+    pub targets: [u8; 32],
+}
+
 extern "C" {
     fn takwishan_check(
         rules: *const u8,
@@ -62,6 +74,13 @@ extern "C" {
     ) -> WriteOutcome;
 
     fn takwishan_member(union: *const u8, union_length: usize, member: usize) -> Part;
+
+    fn takwishan_rename(
+        first: *const u8,
+        first_length: usize,
+        second: *const u8,
+        second_length: usize,
+    ) -> RenameOutcome;
 }
 
 pub fn check(rules: &[u8], question: &[u8], union: &[u8]) -> u32 {
@@ -115,4 +134,9 @@ pub fn write(rules: &[u8], question: &[u8], sheet: &mut [u8]) -> WriteOutcome {
 pub fn member(union: &[u8], m: usize) -> Part {
     // Safety: the pointer is that of a slice of the length beside it, and the function only reads it.
     unsafe { takwishan_member(union.as_ptr(), union.len(), m) }
+}
+
+pub fn rename(first: &[u8], second: &[u8]) -> RenameOutcome {
+    // Safety: each pointer is that of a slice of the length beside it, and the function only reads them.
+    unsafe { takwishan_rename(first.as_ptr(), first.len(), second.as_ptr(), second.len()) }
 }

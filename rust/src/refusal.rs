@@ -6,6 +6,7 @@ macro_rules! refusals {
     ($($case:ident = $number:literal: $sentence:literal,)*) => {
         /// Why a call was refused. The first entry whose condition holds decides, for the earlier ones not holding. Checking a union uses
         /// 1 to 11 and then 18, drawing answers 1 to 13, then 18 and 14, writing a union 1 to 5, then 18, 15 and 16; 17 comes after 2.
+        /// Comparing two questions uses 3 to 5 for the first sheet and then 3 to 5 for the second.
         #[derive(Clone, Copy, Debug, PartialEq, Eq, PartialOrd, Ord, Hash)]
         pub enum Refusal {
             $(#[doc = concat!(stringify!($number), ": ", $sentence)] $case = $number,)*

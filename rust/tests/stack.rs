@@ -1,5 +1,5 @@
 //! The deepest search over the largest tables stays within the stack that header and README name.
-use takwishan::{answer, check, write};
+use takwishan::{answer, check, rename, write};
 
 /// Less than a megabyte, for the call and for what calls it.
 const STACK: usize = 1_000_000;
@@ -20,12 +20,16 @@ fn facts(count: u64) -> Vec<u8> {
     (0..count).flat_map(|i| fact(i).to_be_bytes()[2..].to_vec()).collect()
 }
 
-/// The union is written, checked and drawn with: all that a call may need.
+/// The union is written, checked and drawn with, and the question compared: all that a call may need.
 fn drawn(count: u64) -> Vec<u8> {
     let mut list = vec![0; 2 * count as usize];
     let question = question();
     let union = write(&[], &question).expect("merges lead to fewer than 512");
     assert_eq!(check(&[], &question, &union), Ok(()));
+    let targets = rename(&question, &question)
+        .expect("it is sound")
+        .expect("it is alike to itself");
+    assert!(targets[..9].iter().copied().eq(0..9));
     assert_eq!(
         answer(&[], &question, &union, &facts(count), &mut list),
         Ok(count as usize)

@@ -42,6 +42,13 @@ fn wrapper_and_header_have_the_same_first_helper() {
     assert!(header.lines().any(|other| other == line), "the header lacks {line}");
 }
 
+#[test]
+fn wrapper_and_header_have_the_same_mark_of_no_target() {
+    let header = include_str!("../../include/takwishan.h");
+    let line = format!("    TAKWISHAN_NO_TARGET = {}", takwishan::limits::NO_TARGET);
+    assert!(header.lines().any(|other| other == line), "the header lacks {line}");
+}
+
 /// A case's name as the header has it: `RuleSheetLength` is `RULE_SHEET_LENGTH`.
 fn in_c(refusal: takwishan::Refusal) -> String {
     let mut name = String::new();

@@ -84,13 +84,18 @@ pub fn question(draw: &mut Draw) -> Query {
     Query::new(&answers, &atoms)
 }
 
-/// One of the three sheets damaged: a bit turned, a byte changed, bytes cut off or added, or parts exchanged.
+/// One of the three sheets damaged.
 pub fn damaged(draw: &mut Draw, bytes: &mut Bytes) {
     let sheet = match draw.below(6) {
         0 => &mut bytes.rules,
         1 => &mut bytes.question,
         _ => &mut bytes.union,
     };
+    damage(draw, sheet);
+}
+
+/// Damages a sheet: a bit turned, a byte changed, bytes cut off or added.
+pub fn damage(draw: &mut Draw, sheet: &mut Vec<u8>) {
     if sheet.is_empty() {
         return sheet.push(draw.below(256) as u8);
     }

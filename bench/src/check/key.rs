@@ -11,10 +11,11 @@ fn mixed(code: u64, x: u64, y: u64) -> u64 {
 
 /// What is known of each variable.
 #[derive(Default)]
-struct Shapes([u64; 32]);
+pub struct Shapes([u64; 32]);
 
 impl Shapes {
-    fn of(&self, term: Term) -> u64 {
+    /// A variable's shape, or the object itself.
+    pub fn of(&self, term: Term) -> u64 {
         match is_variable(term) {
             true => self.0[term as usize],
             false => term as u64,
@@ -60,8 +61,13 @@ impl Shapes {
     }
 }
 
+/// What answer positions and two rounds of the atoms tell of each variable: variables that a renaming carries to each other share it.
+pub fn shapes_of(query: &Query) -> Shapes {
+    Shapes::first(query).next(query).next(query)
+}
+
 pub fn key_of(query: &Query) -> u64 {
-    let shapes = Shapes::first(query).next(query).next(query);
+    let shapes = shapes_of(query);
     let answer = |(i, &term): (usize, &Term)| mixed(4 * i as u64 + 1, shapes.of(term), 0);
     let answers: u64 = query.answers().iter().enumerate().map(answer).sum();
     let atoms: u64 = query.atoms().iter().map(|&atom| shapes.atom(atom)).sum();

@@ -53,7 +53,7 @@ pub fn seconds<T>(work: impl FnOnce() -> T) -> (f64, T) {
 }
 
 /// What the last of so many calls gives, and the seconds that one took.
-fn several<T>(calls: usize, mut work: impl FnMut() -> T) -> (f64, T) {
+pub fn several<T>(calls: usize, mut work: impl FnMut() -> T) -> (f64, T) {
     let (time, given) = seconds(|| {
         (1..calls).for_each(|_| drop(black_box(work())));
         work()

@@ -40,6 +40,11 @@ pub struct Counts {
     pub tests: Cell<u64>,
 }
 
+/// The smallest renaming that carries p to q: where each variable of p goes, 32 for the others.
+pub fn rename(p: &Query, q: &Query, counts: &Counts) -> Option<[u8; 32]> {
+    renaming::rename(p, q, &counts.tests)
+}
+
 pub fn alike(p: &Query, q: &Query, counts: &Counts) -> bool {
     renaming::alike(p, q, &counts.tests)
 }

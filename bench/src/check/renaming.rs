@@ -1,4 +1,6 @@
-//! Comparison up to renaming: source variables rising, targets rising, with the proved search's reasons to give up a branch.
+//! Comparison up to renaming. The smallest renaming is searched for: source variables rising, targets rising, with the proved search's
+//! reasons to give up a branch. Where only yes or no is asked, a renaming is guessed first and tested once.
+use super::key::{key_of, shapes_of, Shapes};
 use super::words::{is_variable, Atom, Query, Term};
 use std::cell::Cell;
 
@@ -17,11 +19,23 @@ impl Partial {
         }
     }
 
+    fn set(&mut self, v: u32, w: u32) {
+        self.to[v as usize] = w as u8;
+        self.taken |= 1 << w;
+    }
+
     fn with(&self, v: u32, w: u32) -> Partial {
         let mut next = *self;
-        next.to[v as usize] = w as u8;
-        next.taken |= 1 << w;
+        next.set(v, w);
         next
+    }
+
+    /// Lets s go to t if both are variables, s has no target and t is not taken; leaves all as it is otherwise.
+    fn take(&mut self, s: Term, t: Term) {
+        if is_variable(s) && is_variable(t) && self.to[s as usize] == 32 && self.taken >> t & 1 == 0
+        {
+            self.set(s, t);
+        }
     }
 
     /// Whether the term s may still become t.
@@ -104,41 +118,81 @@ impl Search<'_> {
         (n..32).all(|v| look >> v & 1 == 0 || self.has_target(v, m))
     }
 
-    /// Whether a renaming goes on from the partial one, in which the variables below v are assigned.
-    fn complete(&self, v: u32, m: &Partial) -> bool {
+    /// The smallest renaming that goes on from the partial one, in which the variables below v are assigned.
+    fn complete(&self, v: u32, m: &Partial) -> Option<Partial> {
         if v == 32 {
-            return true;
+            return Some(*m);
         }
         if self.sources >> v & 1 == 0 {
             return self.complete(v + 1, m);
         }
-        (0..32).any(|w| {
-            self.offers(v, w, m) && {
-                let next = m.with(v, w);
-                self.promising(&next)
-                    && self.hopeful(beside(self.p, v), v + 1, &next)
-                    && self.complete(v + 1, &next)
+        (0..32).find_map(|w| {
+            if !self.offers(v, w, m) {
+                return None;
             }
+            let next = m.with(v, w);
+            let goes_on = self.promising(&next) && self.hopeful(beside(self.p, v), v + 1, &next);
+            goes_on.then(|| self.complete(v + 1, &next)).flatten()
         })
+    }
+
+    /// Lets the variables of a go to those of the first atom that it may become and whose variables have the same shapes.
+    fn guess_atom(&self, a: Atom, [ours, theirs]: &[Shapes; 2], m: &mut Partial) {
+        let like = |s: Term, t: Term| ours.of(s) == theirs.of(t);
+        let fits = |&&b: &&Atom| {
+            m.may_atom(a, b)
+                && like(a.first(), b.first())
+                && (!a.is_role() || like(a.second(), b.second()))
+        };
+        if let Some(b) = self.q.atoms().iter().find(fits) {
+            m.take(a.first(), b.first());
+            if a.is_role() {
+                m.take(a.second(), b.second());
+            }
+        }
+    }
+
+    /// Whether the guess by these shapes is a renaming: each atom in order goes to the first that fits, and all is tested once.
+    fn guessed(&self, shapes: &[Shapes; 2]) -> bool {
+        let mut m = Partial::new();
+        for &a in self.p.atoms() {
+            self.guess_atom(a, shapes, &mut m);
+        }
+        let has_target = |v: usize| self.sources >> v & 1 == 0 || m.to[v] < 32;
+        (0..32).all(has_target) && self.promising(&m)
+    }
+
+    /// The smallest renaming. Queries with different keys have none.
+    fn smallest(&self) -> Option<[u8; 32]> {
+        let (p, q, m) = (self.p, self.q, Partial::new());
+        let begins = key_of(p) == key_of(q)
+            && self.promising(&m)
+            && p.atoms().iter().all(|&a| spread(p, a) == spread(q, a))
+            && self.hopeful(!0, 0, &m);
+        begins.then(|| self.complete(0, &m)).flatten().map(|m| m.to)
+    }
+
+    fn new<'a>(p: &'a Query, q: &'a Query, tests: &'a Cell<u64>) -> Search<'a> {
+        Search {
+            p,
+            q,
+            sources: p.variables(),
+            targets: q.variables(),
+            tests,
+        }
     }
 }
 
-/// Whether a one-to-one renaming carries p to q. `tests` counts how often a partial renaming is tested.
+/// The smallest one-to-one renaming that carries p to q: where each variable of p goes, 32 for the others. `tests` counts how often a
+/// partial renaming is tested.
+pub fn rename(p: &Query, q: &Query, tests: &Cell<u64>) -> Option<[u8; 32]> {
+    Search::new(p, q, tests).smallest()
+}
+
+/// Whether a one-to-one renaming carries p to q: guessed by the atoms alone, else by the key's shapes too, else searched for.
 pub fn alike(p: &Query, q: &Query, tests: &Cell<u64>) -> bool {
-    let m = Partial::new();
-    let mut search = Search {
-        p,
-        q,
-        sources: 0,
-        targets: 0,
-        tests,
-    };
-    if !search.promising(&m) {
-        return false;
-    }
-    search.sources = p.variables();
-    search.targets = q.variables();
-    p.atoms().iter().all(|&a| spread(p, a) == spread(q, a))
-        && search.hopeful(!0, 0, &m)
-        && search.complete(0, &m)
+    let search = Search::new(p, q, tests);
+    search.guessed(&Default::default())
+        || search.guessed(&[shapes_of(p), shapes_of(q)])
+        || search.smallest().is_some()
 }

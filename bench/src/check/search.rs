@@ -1,9 +1,9 @@
-//! A search for bad sheets, apart from `make bench`: first for the pair of queries with one key whose comparison takes most tests, then
-//! for the union whose check does. What it finds is written down in `bad`.
+//! A search for bad sheets, apart from `make bench`: for the unions whose check takes most tests, then for the pairs of queries with one
+//! key whose renaming does. What it finds is written down in `bad` and in `rename`.
 use super::bad::{A, P};
 use super::unions::{concept_rule, made, object, role_rule, Draw, Numbering, Sheet};
 use super::words::{Atom, Query, Rule, Term};
-use super::{alike, key_of, Counts};
+use super::{alike, key_of, rename, Counts};
 use crate::MOST_MEMBERS;
 use std::collections::HashMap;
 
@@ -32,14 +32,14 @@ fn changed(draw: &mut Draw, atoms: &mut [Atom], variables: usize, roles: usize) 
     }
 }
 
-/// Tests that the comparison takes, and whether the queries are alike; nothing if an atom is there twice.
+/// Tests that the search for a renaming takes, and whether there is one; nothing if an atom is there twice.
 fn cost(p: &[Atom], q: &[Atom]) -> Option<(u64, bool)> {
     let (p, q) = (Query::new(&[], p), Query::new(&[], q));
     if p.atoms().len() < 8 || q.atoms().len() < 8 || key_of(&p) != key_of(&q) {
         return None;
     }
     let counts = Counts::default();
-    let found = alike(&p, &q, &counts);
+    let found = rename(&p, &q, &counts).is_some();
     Some((counts.tests.get(), found))
 }
 

@@ -3,8 +3,8 @@
 use check_chains::INDEX_WORDS;
 use check_chains::before;
 use check_chains::last_with;
+use query_alike::alike;
 use query_key::key_of;
-use query_renaming::search::alike;
 use words::QueryWords;
 use words::rows::load;
 ghost use mathlib.Core.Path.{_≡_};

@@ -1,5 +1,5 @@
 // Refusals 8 and 9: the step written beside each later member, and what it yields.
-use query_renaming::search::alike;
+use query_alike::alike;
 use query_steps::steps::QueryFound;
 use query_steps::steps::merge_step;
 use query_steps::steps::rule_step;

@@ -1,5 +1,5 @@
 -- Worked examples, computed with the definitions: Notation, then 01's own (Examples, from bytes Sheets and Cards), those of the source
--- documents (Closure) and those of 02's requests (Requests, Pairs, OurUnions).
+-- documents (Closure) and those of 02's requests (Requests, Pairs, OurUnions, Renamings).
 pub mod Notation
 pub mod Examples
 pub mod Closure
@@ -8,3 +8,4 @@ pub mod Cards
 pub mod Requests
 pub mod Pairs
 pub mod OurUnions
+pub mod Renamings

@@ -2,6 +2,8 @@
 use answer_draw::Answers;
 use answering::answer;
 use answering::check;
+use comparing::Handed;
+use comparing::rename;
 use read_records::partners::default_partners;
 use read_shown::member_place;
 use write_stage::Written;
@@ -9,6 +11,7 @@ use writing::write;
 ghost use lib.ListN.{length};
 ghost use Rattle.promises.specs.Checking.{Checked};
 ghost use Rattle.promises.specs.Drawing.{Drawn};
+ghost use Rattle.promises.specs.Renaming.{Renamed};
 ghost use Rattle.promises.specs.Showing.{Shown};
 ghost use Rattle.promises.specs.Writing.{UnionWritten};
 
@@ -42,6 +45,14 @@ pub extern "C" fn takwishan_write(rules: &[u8], question: &[u8], sheet: &mut [u8
         (r .number) (r .count) (r .length) (now (sheet .exit)) ⌝ }
 {
     write(rules, question, sheet)
+}
+
+// `rename`.
+#[no_mangle]
+pub extern "C" fn takwishan_rename(first: &[u8], second: &[u8]) -> Handed
+    ensures { λ r. ⌜ Renamed (now (first .entry)) (now (second .entry)) (r .number) (r .found) (r .targets) ⌝ }
+{
+    rename(first, second)
 }
 
 // Where a part of a sheet begins, and how many bytes it has.

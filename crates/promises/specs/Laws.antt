@@ -8,6 +8,7 @@ pub mod Drawing
 pub mod DrawPromises
 pub mod LostTags
 pub mod WritePromises
+pub mod RenamePromises
 pub mod Printing
 pub mod Cut
 pub mod Output

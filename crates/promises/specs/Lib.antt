@@ -4,6 +4,7 @@ pub mod Checking
 pub mod Drawing
 pub mod Showing
 pub mod Writing
+pub mod Renaming
 pub mod Ascii
 pub mod Report
 pub mod Text

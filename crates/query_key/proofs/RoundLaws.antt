@@ -54,13 +54,14 @@ round-listed q n l m s a b = record {
       ∙ next-agrees (queryOf q) (s .variables) (colourIn l) (colours n (queryOf q)) (a .says) v;
 }
 
-pub key-made : (q : QueryWords) (k l m : List ℕ) (x y : ℕ) → Small q → ColoursOf (colours 0 (queryOf q)) k
-    → ColoursOf (next (queryOf q) (colourIn k)) l → ColoursOf (next (queryOf q) (colourIn l)) m
+pub shapes-made : (q : QueryWords) (k l m : List ℕ) → Small q → ColoursOf (colours 0 (queryOf q)) k
+    → ColoursOf (next (queryOf q) (colourIn k)) l → ColoursOf (next (queryOf q) (colourIn l)) m → ColoursOf (colours 2 (queryOf q)) m
+shapes-made q k l m s a b c = round-listed q 1 l m s (round-listed q 0 k l s a b) c
+
+pub key-made : (q : QueryWords) (m : List ℕ) (x y : ℕ) → Small q → ColoursOf (colours 2 (queryOf q)) m
     → x ≡ along (mixAnswer (colourBy (colourIn m))) 0 (queryOf q .answers) → y ≡ total (mixAtom (colourBy (colourIn m))) (queryOf q .atoms)
     → x + y ≡ key (queryOf q)
 unfolding key keyBy
-key-made q k l m x y s a b c d e =
-    ap₂ _+_ d e ∙ key-agrees (queryOf q) (s .variables) (colourIn m) (colours 2 (queryOf q))
-    (round-listed q 1 l m s (round-listed q 0 k l s a b) c .says)
+key-made q m x y s a d e = ap₂ _+_ d e ∙ key-agrees (queryOf q) (s .variables) (colourIn m) (colours 2 (queryOf q)) (a .says)
 
-pub ruleset laws = (needs, key-made)
+pub ruleset laws = (needs, shapes-made, key-made)

@@ -149,13 +149,21 @@ fn atoms_sum(q: QueryWords, colours: &[u64; 32]) -> u64
     sum
 }
 
+// The shapes of the query's variables: their colours after two rounds.
+pub fn shapes_of(q: QueryWords) -> [u64; 32]
+    requires { ⌜ Small q ⌝ }
+    ensures { λ r. ⌜ ColoursOf (coloursAfter 2 (queryOf q)) r ⌝ }
+{
+    let first = first_colours(q);
+    let second = next_colours(q, &first);
+    next_colours(q, &second)
+}
+
 // The key of the query.
 pub fn key_of(q: QueryWords) -> u64
     requires { ⌜ Small q ⌝ }
     ensures { λ r. ⌜ r ≡ key (queryOf q) ⌝ }
 {
-    let first = first_colours(q);
-    let second = next_colours(q, &first);
-    let third = next_colours(q, &second);
-    answers_sum(q, &third) + atoms_sum(q, &third)
+    let shapes = shapes_of(q);
+    answers_sum(q, &shapes) + atoms_sum(q, &shapes)
 }

@@ -1,2 +1,3 @@
--- What the contracts cite.
+-- What the contracts cite, and what a variable that is sent changes.
 pub mod Partial
+pub mod SentLaws

@@ -3,7 +3,7 @@
 use mathlib.Core.Path.{_≡_}
 use Prim.Native.Nat.{ℕ, _<_}
 use mathlib.Core.Bool.{Bool, true, false, not, _||_}
-use lib.Dec.{eqb}
+use lib.Dec.{T, eqb}
 use lib.ListN.{length, getD, set}
 use Rattle.theory.specs.Lists.{pick}
 use Rattle.theory.specs.Syntax.{Term, var, const, Atom, onAtoms}
@@ -29,6 +29,12 @@ pub record Sends (m : Partial) (v w : ℕ) (n : Partial) : Type 0 where
   pub low : w < 32
   pub entries : n .to ≡ set (m .to) v w
   pub targets : (u : ℕ) → holds (n .taken) u ≡ (eqb u w || holds (m .taken) u)
+
+-- m sends no two variables to one target, and the targets are taken
+pub record Apart (m : Partial) : Type 0 where
+  pub long : length (m .to) ≡ 32
+  pub apart : (u v : ℕ) → u < 32 → v < 32 → (entry m u ≡ 32 → ⊥) → entry m u ≡ entry m v → u ≡ v
+  pub taken : (v : ℕ) → v < 32 → (entry m v ≡ 32 → ⊥) → T (holds (m .taken) (entry m v))
 
 -- the atoms have one predicate, which is kind and number
 unfoldable pub samePredicate : Atom Term → Atom Term → Bool

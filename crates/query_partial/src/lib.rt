@@ -20,7 +20,7 @@ ghost use Rattle.query_partial.specs.Partial.{samePredicate};
 
 // Where each variable goes, 32 where it is not assigned, and the set of the targets taken.
 pub struct Partial {
-    pub to: [u32; 32],
+    pub to: [u8; 32],
     pub taken: u32,
 }
 
@@ -28,7 +28,7 @@ pub struct Partial {
 pub fn nothing() -> Partial
     ensures { λ r. ⌜ (r .to ≡ replicate 32 32) × (r .taken ≡ 0) ⌝ }
 {
-    let to = [32u32; 32];
+    let to = [32u8; 32];
     Partial { to, taken: 0 }
 }
 
@@ -38,7 +38,7 @@ pub fn assign(m: Partial, v: u32, w: u32) -> Partial
     ensures { λ r. ⌜ Sends m v w r ⌝ }
 {
     let mut to = m.to;
-    to[v as usize] = w;
+    to[v as usize] = w as u8;
     let taken = with(m.taken, w);
     Partial { to, taken }
 }
@@ -49,7 +49,7 @@ fn may_go(m: Partial, v: u32, w: u32) -> bool
     ensures { λ r. ⌜ r ≡ mayBecome m (var v) (var w) ⌝ }
 {
     let to = m.to;
-    let u = to[v as usize];
+    let u = to[v as usize] as u32;
     if u == 32 { !has(m.taken, w) } else { u == w }
 }
 
@@ -97,7 +97,7 @@ fn may_terms(m: Partial, a: u64, b: u64) -> bool
 }
 
 // Whether the atom a may still become b.
-fn may_atom(m: Partial, a: u64, b: u64) -> bool
+pub fn may_atom(m: Partial, a: u64, b: u64) -> bool
     requires { ⌜ LowAtom a × LowAtom b ⌝ }
     ensures { λ r. ⌜ r ≡ onAtoms (mayBecome m) (wordAtom a) (wordAtom b) ⌝ }
 {

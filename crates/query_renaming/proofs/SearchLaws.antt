@@ -1,55 +1,37 @@
 -- The search for a renaming: what promising partial renamings have to do with renamings, and what each step of the search keeps.
 use mathlib.Core.Path.{_≡_, refl, sym, ap, _∙_, subst}
-use mathlib.Core.Logic.{_⊎_, inl, inr, _↔_, _≢_}
-use Prim.Native.Nat.{ℕ, _+_, _≤_, _<_, zero-le}
+use mathlib.Core.Logic.{inl, inr, _↔_, _≢_}
+use Prim.Native.Nat.{ℕ, zero, suc, _+_, _≤_, _<_, zero-le}
 use native.Mathlib.Nat.{le-refl}
-use native.Mathlib.Decide.{ℕ-discrete}
+use native.Mathlib.Decide.{ℕ-discrete, decLt}
 use native.Mathlib.Omega.{arith}
 use mathlib.Core.Bool.{Bool, true, false, not, _&&_}
-use mathlib.Core.List.{Memᴰ·cast}
+use mathlib.Core.List.{List, [], _∷_}
 use lib.Dec.{T, eqb}
-use lib.ListN.{getD, set, replicate, getD-replicate}
-use lib.Seq.{getD-set-same, getD-set-other}
+use lib.ListN.{length, getD, replicate, List·getD-eq-default}
 use borrow.Author.Needs.{needs}
 use borrow.Author.Tests.{eqb-true, eqb-false, not-true, not-false}
 use Rattle.theory.specs.Lists.{_∈_, any, pick}
 use Rattle.theory.specs.Syntax.{Term, var, const, Query, terms, rename, sameTerm}
-use Rattle.theory.specs.Renaming.{Alike, promising, alike}
-use Rattle.theory.specs.Laws.Options.{T-and, T-or, T-no, T-eqb, is-true, is-false, same-test}
+use Rattle.theory.specs.Renaming.{Alike, promising}
+use Rattle.theory.specs.Targets.{places, noTarget, targetAt, HandedBack}
+use Rattle.theory.specs.Laws.Options.{T-and, T-or, T-no, T-eqb, is-true, is-false}
 use Rattle.theory.specs.Laws.Lists.{any-same}
 use Rattle.theory.specs.Laws.Syntax.{sameTerm-iff}
 use Rattle.theory.specs.Laws.Equivalence.{term-into}
-use Rattle.theory.specs.Laws.Promising.{promising-renaming, renaming-promising}
-use Rattle.theory.specs.Laws.RenamingDecided.{alike-iff}
+use Rattle.theory.specs.Laws.Promising.{renaming-promising}
+use Rattle.theory.specs.Laws.Targets.{precedes-least, none-handed-back}
 use Rattle.words.specs.Words.{queryOf, Small}
 use Rattle.words.specs.declared.QueryWords.{QueryWords}
 use Rattle.words.specs.Laws.LowVariables.{atom-low}
 use Rattle.query_sets.specs.Sets.{holds}
 use Rattle.query_sets.specs.Laws.Digits.{holds-none}
 use Rattle.query_partial.specs.Partial.{entry, mayBecome, Sends}
+use Rattle.query_partial.specs.SentLaws.{sent-entry, not-nowhere, other-entry, either-entry, apart-next, empty-entry, apart-nothing}
+use Rattle.query_partial.specs.SentLaws.{sent-renaming}
 use Rattle.query_partial.specs.declared.Partial.{Partial}
-use Rattle.query_renaming.specs.Comparison.{Ready, Begun, Follows, Renaming, GoesOn, Offers, Allows, Judges, DecidesAlike}
+use Rattle.query_renaming.specs.Comparison.{Ready, Begun, Follows, RenamingOf, GoesOn, Offers, Allows, Judges, Completes}
 use Rattle.query_renaming.specs.declared.search.Compared.{Compared}
-
--- ---- a promising partial renaming that sends every variable is a renaming
-
--- a term of which the variable is assigned may become one term only
-mayBe-image : (m : Partial) (s t : Term) → ((v : ℕ) → s ≡ var v → entry m v ≡ 32 → ⊥) → T (mayBecome m s t) → rename (entry m) s ≡ t
-unfolding mayBecome
-mayBe-image m (var v) (var w) h t = go (eqb (entry m v) 32) refl t
-  where
-    go : (b : Bool) → eqb (entry m v) 32 ≡ b → T (pick b (not (holds (m .taken) w)) (eqb (entry m v) w)) → var (entry m v) ≡ var w
-    go true e t = absurd (h v refl (eqb-true (entry m v) 32 e))
-    go false e t = ap var (T-eqb (entry m v) w .0 t)
-mayBe-image m (var v) (const d) h t = absurd t
-mayBe-image m (const c) (var w) h t = absurd t
-mayBe-image m (const c) (const d) h t = ap const (T-eqb c d .0 t)
-
-sent-renaming : (p q : Query) (m : Partial) → ((v : ℕ) → var v ∈ terms p → v < 32) → Begun p 32 m → promising (mayBecome m) p q ≡ true
-    → Alike p q
-sent-renaming p q m low begun e =
-    promising-renaming (mayBecome m) p q (entry m) (λ u v i j d. begun .apart u v i j (begun .sent u (low u i) i) d)
-    (λ s t n. mayBe-image m s t (λ v d. let i : var v ∈ terms p = Memᴰ·cast (sym d) n in begun .sent v (low v i) i)) (subst T (sym e) tt)
 
 -- ---- where a renaming goes on from a partial one, that one is promising
 
@@ -72,64 +54,36 @@ module _ (p q : Query) (m : Partial) (r : Alike p q) (f : Follows p q m r) where
 -- ---- a variable is assigned
 
 module _ (m n : Partial) (v w : ℕ) (s : Sends m v w n) where
-  sent-entry : entry n v ≡ w
-  sent-entry = ap (λ l. getD l v 0) (s .entries) ∙ getD-set-same (m .to) v w 0 (s .within)
-
-  not-nowhere : w ≡ 32 → ⊥
-  not-nowhere e = let h = s .low in omega arith
-
-  other-entry : (u : ℕ) → u ≢ v → entry n u ≡ entry m u
-  other-entry u d = ap (λ l. getD l u 0) (s .entries) ∙ getD-set-other (m .to) v u w 0 d
-
-  sent-taken : T (holds (n .taken) w)
-  sent-taken = subst T (sym (s .targets w)) (T-or (eqb w w) (holds (m .taken) w) .1 (inl (T-eqb w w .1 refl)))
-
-  other-taken : (u : ℕ) → T (holds (m .taken) u) → T (holds (n .taken) u)
-  other-taken u t = subst T (sym (s .targets u)) (T-or (eqb u w) (holds (m .taken) u) .1 (inr t))
-
-  -- the entry of a variable is the new one, or as before
-  either-entry : (u : ℕ) → ((u ≡ v) × (entry n u ≡ w)) ⊎ ((u ≢ v) × (entry n u ≡ entry m u))
-  either-entry u = elim (ℕ-discrete u v) [ yes e ↦ inl (e, ap (entry n) e ∙ sent-entry) | no d ↦ inr (d, other-entry u d) ]
-
-  pub begun-next : (p : Query) → Begun p v m → holds (m .taken) w ≡ false → Begun p (v + 1) n
-  begun-next p b e = record {
-    sent = λ u h i z. elim (either-entry u) [
-      | inl x ↦ not-nowhere (sym (x .1) ∙ z)
+  begun-sent : (p : Query) → var v ∈ terms p → Begun p v m → holds (m .taken) w ≡ false → Begun p (v + 1) n
+  begun-sent p j b e = record {
+    sent = λ u h i z. elim (either-entry m n v w s u) [
+      | inl x ↦ not-nowhere m n v w s (sym (x .1) ∙ z)
       | inr x ↦ (let d : u ≢ v = x .0 in b .sent u (omega arith) i (sym (x .1) ∙ z))
     ];
-    left = λ u h k. other-entry u (omega arith) ∙ b .left u (omega arith) k;
-    apart = λ u x i j d f. elim (either-entry u) [
-      | inl y ↦ elim (either-entry x) [ inl z ↦ y .0 ∙ sym (z .0) | inr z ↦ absurd (clash x j (sym (z .1) ∙ sym f ∙ y .1)) ]
-      | inr y ↦ elim (either-entry x) [
-        | inl z ↦ absurd (clash u i (sym (y .1) ∙ f ∙ z .1))
-        | inr z ↦ b .apart u x i j (λ k. d (y .1 ∙ k)) (sym (y .1) ∙ f ∙ z .1)
-      ]
-    ];
-    taken = λ u i d. elim (either-entry u) [
-      | inl y ↦ subst (λ k. T (holds (n .taken) k)) (sym (y .1)) sent-taken
-      | inr y ↦ subst (λ k. T (holds (n .taken) k)) (sym (y .1)) (other-taken (entry m u) (b .taken u i (λ k. d (y .1 ∙ k))))
-    ];
+    unsent = λ u h f. other-entry m n v w s u (λ d. f (subst (λ k. var k ∈ terms p) (sym d) j)) ∙ b .unsent u h f;
+    left = λ u h k. other-entry m n v w s u (omega arith) ∙ b .left u (omega arith) k;
+    one-to-one = apart-next m n v w s (b .one-to-one) e;
   }
-    where
-      clash : (x : ℕ) → var x ∈ terms p → entry m x ≡ w → ⊥
-      clash x j f = subst T (ap (holds (m .taken)) f ∙ e) (b .taken x j (λ z. not-nowhere (sym f ∙ z)))
 
   follows-next : (p q : Query) (r : Alike p q) → Follows p q m r → var v ∈ terms p → entry m v ≡ 32 → r .to v ≡ w → Follows p q n r
   follows-next p q r f i z e = record {
-    goes = λ u j d.
-        elim (either-entry u) [ inl y ↦ ap (r .to) (y .0) ∙ e ∙ sym (y .1) | inr y ↦ f .goes u j (λ k. d (y .1 ∙ k)) ∙ sym (y .1) ];
+    goes = λ u j d. elim (either-entry m n v w s u) [
+      | inl y ↦ ap (r .to) (y .0) ∙ e ∙ sym (y .1)
+      | inr y ↦ f .goes u j (λ k. d (y .1 ∙ k)) ∙ sym (y .1)
+    ];
     comes = λ x t. elim (T-or (eqb x w) (holds (m .taken) x) .0 (subst T (s .targets x) t)) [
-      | inl h ↦ (v, i, (λ k. not-nowhere (sym sent-entry ∙ k)), e ∙ sym (T-eqb x w .0 h))
-      | inr h ↦ (let c = f .comes x h in
-          (c .0, c .1, (λ k. elim (either-entry (c .0)) [ inl y ↦ c .2 (ap (entry m) (y .0) ∙ z) | inr y ↦ c .2 (sym (y .1) ∙ k) ]), c .3))
+      | inl h ↦ (v, i, (λ k. not-nowhere m n v w s (sym (sent-entry m n v w s) ∙ k)), e ∙ sym (T-eqb x w .0 h))
+      | inr h ↦ (let c = f .comes x h in (
+        c .0,
+        c .1,
+        (λ k. elim (either-entry m n v w s (c .0)) [ inl y ↦ c .2 (ap (entry m) (y .0) ∙ z) | inr y ↦ c .2 (sym (y .1) ∙ k) ]),
+        c .3,
+      ))
     ];
   }
 
 -- nothing is assigned
 module _ (m : Partial) (to : m .to ≡ replicate 32 32) (taken : m .taken ≡ 0) where
-  empty-entry : (v : ℕ) → v < 32 → entry m v ≡ 32
-  empty-entry v h = ap (λ l. getD l v 0) to ∙ getD-replicate 32 v 32 0 h
-
   none-taken : (w : ℕ) → ¬ T (holds (m .taken) w)
   none-taken w t = subst T (ap (λ k. holds k w) taken ∙ holds-none w) t
 
@@ -137,22 +91,31 @@ module _ (m : Partial) (to : m .to ≡ replicate 32 32) (taken : m .taken ≡ 0)
     begun-nothing : Begun p 0 m
     begun-nothing = record {
       sent = λ v h. absurd (omega arith);
-      left = λ v h k. empty-entry v k;
-      apart = λ u v i j d. absurd (d (empty-entry u (low u i)));
-      taken = λ v i d. absurd (d (empty-entry v (low v i)));
+      unsent = λ v h f. empty-entry m to v h;
+      left = λ v h k. empty-entry m to v k;
+      one-to-one = apart-nothing m to;
     }
 
     follows-nothing : (q : Query) (r : Alike p q) → Follows p q m r
-    follows-nothing q r = record { goes = λ v i d. absurd (d (empty-entry v (low v i))); comes = λ w t. absurd (none-taken w t) }
+    follows-nothing q r = record {
+      goes = λ v i d. absurd (d (empty-entry m to v (low v i)));
+      comes = λ w t. absurd (none-taken w t);
+    }
 
 -- a number that is no variable is passed over
 begun-past : (p : Query) (v : ℕ) (m : Partial) → ¬ (var v ∈ terms p) → Begun p v m → Begun p (v + 1) m
 begun-past p v m f b = record {
   sent = λ u h i. elim (ℕ-discrete u v) [ yes e ↦ absurd (f (subst (λ k. var k ∈ terms p) e i)) | no d ↦ b .sent u (omega arith) i ];
+  unsent = b .unsent;
   left = λ u h. b .left u (omega arith);
-  apart = b .apart;
-  taken = b .taken;
+  one-to-one = b .one-to-one;
 }
+
+-- within a list any default gives the same element
+any-default : (l : List ℕ) (i d d′ : ℕ) → i < length l → getD l i d ≡ getD l i d′
+any-default [] i d d′ h = absurd (omega arith)
+any-default (x ∷ xs) zero d d′ h = refl
+any-default (x ∷ xs) (suc i) d d′ h = any-default xs i d d′ (omega arith)
 
 -- ---- the sets of variables
 
@@ -188,12 +151,12 @@ module _ (s : Compared) (ready : Ready s) where
   source-stands v e = variable-held (queryOf (s .p)) (s .sources) v (ready .sources) .0 (subst T (sym e) tt)
 
   -- where a renaming sends a variable there is a variable of the other query
-  image-held : (r : Renaming s) (v : ℕ) → holds (s .sources) v ≡ true → T (holds (s .targets) (r .to v))
+  image-held : (r : RenamingOf s) (v : ℕ) → holds (s .sources) v ≡ true → T (holds (s .targets) (r .to v))
   image-held r v e =
       variable-held (queryOf (s .q)) (s .targets) (r .to v) (ready .targets) .1
       (term-into (queryOf (s .p)) (queryOf (s .q)) r (source-stands v e))
 
-  image-low : (r : Renaming s) (v : ℕ) → holds (s .sources) v ≡ true → r .to v < 32
+  image-low : (r : RenamingOf s) (v : ℕ) → holds (s .sources) v ≡ true → r .to v < 32
   image-low r v e = ready .small-q .variables (r .to v) (term-into (queryOf (s .p)) (queryOf (s .q)) r (source-stands v e))
 
   module _ (m : Partial) (v w : ℕ) (b : Bool) (e : holds (s .sources) v ≡ true)
@@ -210,7 +173,7 @@ module _ (s : Compared) (ready : Ready s) where
       untaken = λ h. absurd (subst T (sym h) tt);
     }
 
-    pub offered : (c : Bool) → b ≡ true → ((r : Renaming s) → var v ∈ terms (queryOf (s .p)) → r .to v ≡ w → c ≡ true) → Offers s m v w c
+    pub offered : (c : Bool) → b ≡ true → ((r : RenamingOf s) → var v ∈ terms (queryOf (s .p)) → r .to v ≡ w → c ≡ true) → Offers s m v w c
     offered c f h = record { offers = λ r g d. h r (source-stands v e) d; untaken = λ k. not-taken s m w b free f }
 
 -- ---- the targets one after the other
@@ -220,13 +183,13 @@ pub record Seeks (s : Compared) (m : Partial) (v w : ℕ) : Type 0 where
   pub ready : Ready s
   pub source : holds (s .sources) v ≡ true
   pub unsent : entry m v ≡ 32
-  pub beyond : (r : Renaming s) → GoesOn s m r → w ≤ r .to v
+  pub beyond : (r : RenamingOf s) → GoesOn s m r → w ≤ r .to v
 
 pub seeks-first : (s : Compared) (m : Partial) (v : ℕ) → Ready s → holds (s .sources) v ≡ true → entry m v ≡ 32 → Seeks s m v 0
 seeks-first s m v ready e z = record { ready = ready; source = e; unsent = z; beyond = λ r g. zero-le }
 
 module _ (s : Compared) (m : Partial) (v w : ℕ) (k : Seeks s m v w) where
-  past : ((r : Renaming s) → GoesOn s m r → r .to v ≡ w → ⊥) → Seeks s m v (w + 1)
+  past : ((r : RenamingOf s) → GoesOn s m r → r .to v ≡ w → ⊥) → Seeks s m v (w + 1)
   past f = record {
     ready = k .ready;
     source = k .source;
@@ -236,6 +199,10 @@ module _ (s : Compared) (m : Partial) (v w : ℕ) (k : Seeks s m v w) where
 
   pub past-unoffered : (b : Bool) → Offers s m v w b → b ≡ false → Seeks s m v (w + 1)
   past-unoffered b o f = past (λ r g d. subst T (sym (o .offers r g d) ∙ f) tt)
+
+  pub begun-next : (n : Partial) → Sends m v w n → Begun (queryOf (s .p)) v m → holds (m .taken) w ≡ false
+      → Begun (queryOf (s .p)) (v + 1) n
+  begun-next n sends = begun-sent m n v w sends (queryOf (s .p)) (source-stands s (k .ready) v (k .source))
 
   module _ (n : Partial) (b : Bool) where
     past-refused : Allows s n b → b ≡ false → Sends m v w n → Seeks s m v (w + 1)
@@ -249,8 +216,44 @@ module _ (s : Compared) (m : Partial) (v w : ℕ) (k : Seeks s m v w) where
     pub past-unviable : Judges s n b → b ≡ false → Sends m v w n → Seeks s m v (w + 1)
     past-unviable j = past-refused (j .permits)
 
-    pub past-undecided : DecidesAlike s n b → b ≡ false → Sends m v w n → Seeks s m v (w + 1)
-    past-undecided d = past-refused (record { allows = d .complete })
+    pub past-uncompleted : (t : List ℕ) → Completes s n b t → b ≡ false → Sends m v w n → Seeks s m v (w + 1)
+    past-uncompleted t d = past-refused (record { allows = d .complete })
+
+    -- the first target with which the search goes on to a renaming: none that goes on from m goes lower
+    pub first-found : (t : List ℕ) → Completes s n b t → b ≡ true → Sends m v w n → Begun (queryOf (s .p)) v m → Completes s m b t
+    first-found t d e sends begun = record {
+      complete = λ r g. e;
+      fits = d .fits;
+      goes = goes-too;
+      least = λ h r g. elim (ℕ-discrete w (r .to v)) [
+        | yes same ↦ d .least h r (follows-next m n v w sends (queryOf (s .p)) (queryOf (s .q)) r g stands (k .unsent) (sym same))
+        | no differ ↦ (let low = k .beyond r g in
+            record {
+              lower = inr (
+                v,
+                stands,
+                below h (r .to v) (omega arith),
+                λ u i l. goes-too h u i (begun .sent u l i)
+                    ∙ sym (g .goes u i (begun .sent u l i)),
+              );
+            })
+      ];
+      no-targets = d .no-targets;
+    }
+      where
+        stands : var v ∈ terms (queryOf (s .p))
+        stands = source-stands s (k .ready) v (k .source)
+
+        goes-too : b ≡ true → (u : ℕ) → var u ∈ terms (queryOf (s .p)) → (entry m u ≡ 32 → ⊥) → targetAt t u ≡ entry m u
+        goes-too h u i f =
+            let z : entry n u ≡ entry m u = other-entry m n v w sends u (λ x. f (ap (entry m) x ∙ k .unsent)) in
+            d .goes h u i (λ y. f (sym z ∙ y)) ∙ z
+
+        below : b ≡ true → (x : ℕ) → w < x → targetAt t v < x
+        below h x l =
+            let z = sent-entry m n v w sends in
+            let y = d .goes h v stands (λ y. not-nowhere m n v w sends (sym z ∙ y)) in
+            subst (λ c. c < x) (sym (y ∙ z)) l
 
   pub past-all : 32 ≤ w → Allows s m false
   past-all h = record { allows = λ r g. (let x = k .beyond r g in let y = image-low s (k .ready) r v (k .source) in absurd (omega arith)) }
@@ -281,19 +284,47 @@ module _ (s : Compared) (ready : Ready s) where
     pub judged : (b : Bool) → Judges s m b → b ≡ true → promising (mayBecome m) (queryOf (s .p)) (queryOf (s .q)) ≡ true
     judged b j e = j .promises e
 
-    pub none-left : Allows s m false → DecidesAlike s m false
-    none-left a = record { found = λ e. absurd (subst T (sym e) tt); complete = a .allows }
-
-    pub one-found : (n : Partial) (b : Bool) → DecidesAlike s n b → b ≡ true → DecidesAlike s m true
-    one-found n b d e = record { found = λ f. d .found e; complete = λ r g. refl }
-
-    pub all-sent : (v : ℕ) → v ≡ 32 → Begun (queryOf (s .p)) v m → promising (mayBecome m) (queryOf (s .p)) (queryOf (s .q)) ≡ true
-        → DecidesAlike s m true
-    all-sent v z b e = record {
-      found = λ f.
-          sent-renaming (queryOf (s .p)) (queryOf (s .q)) m (ready .small-p .variables) (subst (λ k. Begun (queryOf (s .p)) k m) z b) e;
-      complete = λ r g. refl;
+    pub none-left : (b : Bool) (t : List ℕ) → b ≡ false → t ≡ replicate places noTarget → Allows s m false → Completes s m b t
+    none-left b t e f a = record {
+      complete = λ r g. e ∙ a .allows r g;
+      fits = λ h. absurd (subst T (sym h ∙ e) tt);
+      goes = λ h. absurd (subst T (sym h ∙ e) tt);
+      least = λ h. absurd (subst T (sym h ∙ e) tt);
+      no-targets = λ h. f;
     }
+
+    pub all-sent : (v : ℕ) (b : Bool) (t : List ℕ) → v ≡ 32 → Begun (queryOf (s .p)) v m
+        → promising (mayBecome m) (queryOf (s .p)) (queryOf (s .q)) ≡ true → b ≡ true → t ≡ m .to → Completes s m b t
+    all-sent v b t z begun e f g = record {
+      complete = λ r h. f;
+      fits = λ h. record {
+        renaming = renamed .0;
+        sent = λ u i. at u (low u i) ∙ sym (renamed .1 u);
+        unsent = λ u n. elim (decLt u 32) [
+          | yes l ↦ at u l ∙ begun .unsent u l n
+          | no l ↦ List·getD-eq-default t 32 {n = u} (let k = long in omega arith)
+        ];
+        long = long;
+      };
+      goes = λ h u i n. at u (low u i);
+      least = λ h r k. record { lower = inl (λ u i. at u (low u i) ∙ sym (k .goes u i (sent u i))) };
+      no-targets = λ h. absurd (subst T (sym f ∙ h) tt);
+    }
+      where
+        low : (u : ℕ) → var u ∈ terms (queryOf (s .p)) → u < 32
+        low = ready .small-p .variables
+
+        long : length t ≡ 32
+        long = ap length g ∙ begun .one-to-one .long
+
+        sent : (u : ℕ) → var u ∈ terms (queryOf (s .p)) → entry m u ≡ 32 → ⊥
+        sent u i = begun .sent u (let l = low u i in omega arith) i
+
+        at : (u : ℕ) → u < 32 → targetAt t u ≡ entry m u
+        at u l = any-default t u 32 0 (let k = long in omega arith) ∙ ap (λ l. getD l u 0) g
+
+        renamed : (r : RenamingOf s) × ((u : ℕ) → r .to u ≡ entry m u)
+        renamed = sent-renaming (queryOf (s .p)) (queryOf (s .q)) m low (begun .one-to-one) sent e
 
     pub entry-left : (v n : ℕ) → Begun (queryOf (s .p)) n m → n ≤ v → v < 32 → entry m v ≡ 32
     entry-left v n b h k = b .left v h k
@@ -307,16 +338,10 @@ module _ (s : Compared) (ready : Ready s) where
         begun-past (queryOf (s .p)) v m
         (λ i. subst T (sym e ∙ not-true b f) (variable-held (queryOf (s .p)) (s .sources) v (ready .sources) .1 i))
 
-module _ (s : Compared) (m : Partial) (b : Bool) where
-  pub not-as-many : (Renaming s → b ≡ true) → b ≡ false → DecidesAlike s m false
-  not-as-many f e = record { found = λ d. absurd (subst T (sym d) tt); complete = λ r g. sym e ∙ f r }
+pub not-as-many : (s : Compared) (m : Partial) (b : Bool) → (RenamingOf s → b ≡ true) → b ≡ false → Allows s m false
+not-as-many s m b f e = record { allows = λ r g. sym e ∙ f r }
 
 -- ---- from nothing on
-
--- the answer is that of the definition
-equals-alike : (p q : Query) (b : Bool) → (b ≡ true → Alike p q) → (Alike p q → b ≡ true) → b ≡ alike p q
-equals-alike p q b found complete =
-    same-test b (alike p q) (λ t. alike-iff p q .1 (found (is-true b t)), λ t. subst T (sym (complete (alike-iff p q .0 t))) tt)
 
 module _ (m : Partial) (to : m .to ≡ replicate 32 32) (taken : m .taken ≡ 0) (p q : QueryWords) (small-p : Small p) (small-q : Small q)
   where
@@ -327,20 +352,28 @@ module _ (m : Partial) (to : m .to ≡ replicate 32 32) (taken : m .taken ≡ 0)
         → promising (mayBecome m) (queryOf (s .p)) (queryOf (s .q)) ≡ true
     promising-first s b e f h i = rw (e, f) (sym h ∙ i)
 
-    pub decided : (s : Compared) (b : Bool) → s .p ≡ p → s .q ≡ q → DecidesAlike s m b → b ≡ alike (queryOf p) (queryOf q)
-    decided s b e f d =
+    -- the first renaming found is the smallest
+    pub handed-back : (s : Compared) (b : Bool) (t : List ℕ) → s .p ≡ p → s .q ≡ q → Completes s m b t
+        → HandedBack (queryOf p) (queryOf q) b t
+    handed-back s b t e f d =
         let low : (v : ℕ) → var v ∈ terms (queryOf (s .p)) → v < 32 =
         subst (λ k. (v : ℕ) → var v ∈ terms (queryOf k) → v < 32) (sym e) (small-p .variables) in
-        let h : b ≡ alike (queryOf (s .p)) (queryOf (s .q)) =
-        equals-alike (queryOf (s .p)) (queryOf (s .q)) b (d .found)
-        (λ r. d .complete r (follows-nothing m to taken (queryOf (s .p)) low (queryOf (s .q)) r)) in
+        let follows : (r : RenamingOf s) → GoesOn s m r = λ r. follows-nothing m to taken (queryOf (s .p)) low (queryOf (s .q)) r in
+        let h : HandedBack (queryOf (s .p)) (queryOf (s .q)) b t = record {
+          smallest = λ i. record {
+            fits = d .fits i;
+            least = λ r. precedes-least (queryOf (s .p)) (targetAt t) (r .to) (d .least i r (follows r));
+          };
+          none-fits = λ i r. subst T (sym (d .complete r (follows r)) ∙ i) tt;
+          no-targets = d .no-targets;
+        } in
         rw (e, f) at h
 
-    pub unlike : (b : Bool) → b ≡ promising (mayBecome m) (queryOf p) (queryOf q) → b ≡ false → false ≡ alike (queryOf p) (queryOf q)
-    unlike b e f =
-        equals-alike (queryOf p) (queryOf q) false (λ h. absurd (subst T (sym h) tt))
-        (λ r. sym f ∙ e ∙ follows-promising (queryOf p) (queryOf q) m r
-        (follows-nothing m to taken (queryOf p) (small-p .variables) (queryOf q) r))
+    pub unlike : (b c : Bool) (t : List ℕ) → b ≡ promising (mayBecome m) (queryOf p) (queryOf q) → b ≡ false → c ≡ false
+        → t ≡ replicate places noTarget → HandedBack (queryOf p) (queryOf q) c t
+    unlike b c t e f =
+        none-handed-back (queryOf p) (queryOf q) c t (λ r. subst T (sym (e ∙ follows-promising (queryOf p) (queryOf q) m r
+        (follows-nothing m to taken (queryOf p) (small-p .variables) (queryOf q) r)) ∙ f) tt)
 
 pub ruleset laws = (
   needs,
@@ -357,7 +390,8 @@ pub ruleset laws = (
   past-unoffered,
   past-unpromising,
   past-unviable,
-  past-undecided,
+  past-uncompleted,
+  first-found,
   past-all,
   allows-all,
   refused,
@@ -365,7 +399,6 @@ pub ruleset laws = (
   unpromising,
   judged,
   none-left,
-  one-found,
   all-sent,
   entry-left,
   unsent,
@@ -373,6 +406,6 @@ pub ruleset laws = (
   not-as-many,
   begun-first,
   promising-first,
-  decided,
+  handed-back,
   unlike,
 )

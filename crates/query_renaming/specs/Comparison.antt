@@ -2,13 +2,17 @@
 use mathlib.Core.Path.{_≡_}
 use Prim.Native.Nat.{ℕ, _≤_, _<_}
 use mathlib.Core.Bool.{Bool, true, false}
+use mathlib.Core.List.{List}
 use lib.Dec.{T}
+use lib.ListN.{replicate}
 use Rattle.theory.specs.Lists.{_∈_, any}
 use Rattle.theory.specs.Syntax.{var, Query, terms, sameTerm}
 use Rattle.theory.specs.Renaming.{Alike, promising}
+use Rattle.theory.specs.Targets.{places, noTarget, targetAt, Targets}
+use Rattle.theory.specs.Laws.Targets.{Precedes}
 use Rattle.words.specs.Words.{queryOf, Small}
 use Rattle.query_sets.specs.Sets.{holds}
-use Rattle.query_partial.specs.Partial.{entry, mayBecome}
+use Rattle.query_partial.specs.Partial.{entry, mayBecome, Apart}
 use Rattle.query_partial.specs.declared.Partial.{Partial}
 use Rattle.query_renaming.specs.declared.search.Compared.{Compared}
 
@@ -19,12 +23,12 @@ pub record Ready (s : Compared) : Type 0 where
   pub sources : (u : ℕ) → holds (s .sources) u ≡ any (sameTerm (var u)) (terms (queryOf (s .p)))
   pub targets : (u : ℕ) → holds (s .targets) u ≡ any (sameTerm (var u)) (terms (queryOf (s .q)))
 
--- m sends the variables of p below n, no two to one target, and these targets are taken; from n on nothing is assigned
+-- m sends the variables of p below n, no two to one target; what is no variable of p it does not send, and from n on nothing
 pub record Begun (p : Query) (n : ℕ) (m : Partial) : Type 0 where
   pub sent : (v : ℕ) → v < n → var v ∈ terms p → entry m v ≡ 32 → ⊥
+  pub unsent : (v : ℕ) → v < 32 → (var v ∈ terms p → ⊥) → entry m v ≡ 32
   pub left : (v : ℕ) → n ≤ v → v < 32 → entry m v ≡ 32
-  pub apart : (u v : ℕ) → var u ∈ terms p → var v ∈ terms p → (entry m u ≡ 32 → ⊥) → entry m u ≡ entry m v → u ≡ v
-  pub taken : (v : ℕ) → var v ∈ terms p → (entry m v ≡ 32 → ⊥) → T (holds (m .taken) (entry m v))
+  pub one-to-one : Apart m
 
 -- the renaming goes on from m: it sends each variable of p that is assigned to its entry, and one of these to each target taken
 pub record Follows (p q : Query) (m : Partial) (r : Alike p q) : Type 0 where
@@ -32,27 +36,31 @@ pub record Follows (p q : Query) (m : Partial) (r : Alike p q) : Type 0 where
   pub comes : (w : ℕ) → T (holds (m .taken) w) → (v : ℕ) × (var v ∈ terms p) × (entry m v ≡ 32 → ⊥) × (r .to v ≡ w)
 
 -- a renaming of the two queries
-abbrev pub Renaming : Compared → Type 0
-Renaming s = Alike (queryOf (s .p)) (queryOf (s .q))
+abbrev pub RenamingOf : Compared → Type 0
+RenamingOf s = Alike (queryOf (s .p)) (queryOf (s .q))
 
-abbrev pub GoesOn : (s : Compared) → Partial → Renaming s → Type 0
+abbrev pub GoesOn : (s : Compared) → Partial → RenamingOf s → Type 0
 GoesOn s m r = Follows (queryOf (s .p)) (queryOf (s .q)) m r
 
 -- where a renaming that goes on from m sends v to w the answer is yes, and where it is yes w is not taken
 pub record Offers (s : Compared) (m : Partial) (v w : ℕ) (b : Bool) : Type 0 where
-  pub offers : (r : Renaming s) → GoesOn s m r → r .to v ≡ w → b ≡ true
+  pub offers : (r : RenamingOf s) → GoesOn s m r → r .to v ≡ w → b ≡ true
   pub untaken : b ≡ true → holds (m .taken) w ≡ false
 
 -- where a renaming goes on from m, the answer is yes
 pub record Allows (s : Compared) (m : Partial) (b : Bool) : Type 0 where
-  pub allows : (r : Renaming s) → GoesOn s m r → b ≡ true
+  pub allows : (r : RenamingOf s) → GoesOn s m r → b ≡ true
 
 -- and where it is yes, m is promising
 pub record Judges (s : Compared) (m : Partial) (b : Bool) : Type 0 where
   pub promises : b ≡ true → promising (mayBecome m) (queryOf (s .p)) (queryOf (s .q)) ≡ true
   pub permits : Allows s m b
 
--- where a renaming goes on from m the answer is yes, and where it is yes there is a renaming
-pub record DecidesAlike (s : Compared) (m : Partial) (b : Bool) : Type 0 where
-  pub found : b ≡ true → Renaming s
-  pub complete : (r : Renaming s) → GoesOn s m r → b ≡ true
+-- The targets that the search hands back, going on from m: where a renaming goes on from m there are some, and then they are those of a
+-- renaming that goes on from m, than which none that does goes lower. Where there are none, every place holds 32.
+pub record Completes (s : Compared) (m : Partial) (b : Bool) (targets : List ℕ) : Type 0 where
+  pub complete : (r : RenamingOf s) → GoesOn s m r → b ≡ true
+  pub fits : b ≡ true → Targets (queryOf (s .p)) (queryOf (s .q)) targets
+  pub goes : b ≡ true → (v : ℕ) → var v ∈ terms (queryOf (s .p)) → (entry m v ≡ 32 → ⊥) → targetAt targets v ≡ entry m v
+  pub least : b ≡ true → (r : RenamingOf s) → GoesOn s m r → Precedes (queryOf (s .p)) (targetAt targets) (r .to)
+  pub no-targets : b ≡ false → targets ≡ replicate places noTarget

@@ -1,2 +1,2 @@
-// Comparison of two queries up to renaming.
+// Comparison of two queries: the smallest renaming from the one to the other.
 pub mod search;

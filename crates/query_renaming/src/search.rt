@@ -10,13 +10,15 @@ use query_sets::has;
 use query_variables::used::used;
 use words::QueryWords;
 ghost use mathlib.Core.Path.{_≡_};
-ghost use mathlib.Core.Bool.{true, not, _&&_};
+ghost use mathlib.Core.Bool.{true, false, not, _&&_};
 ghost use Prim.Native.Nat.{_+_, _≤_, _<_};
-ghost use Rattle.theory.specs.Renaming.{alike as alikeIn, promising as promisingIn};
+ghost use lib.ListN.{replicate};
+ghost use Rattle.theory.specs.Renaming.{promising as promisingIn};
+ghost use Rattle.theory.specs.Targets.{places, noTarget, HandedBack};
 ghost use Rattle.words.specs.Words.{queryOf, Small};
 ghost use Rattle.query_sets.specs.Sets.{holds};
 ghost use Rattle.query_partial.specs.Partial.{entry, mayBecome};
-ghost use Rattle.query_renaming.specs.Comparison.{Ready, Begun, Offers, Allows, Judges, DecidesAlike};
+ghost use Rattle.query_renaming.specs.Comparison.{Ready, Begun, Offers, Allows, Judges, Completes};
 
 // Two queries with the sets of their variables.
 pub struct Compared {
@@ -132,13 +134,42 @@ fn viable(s: Compared, v: u32, m: Partial) -> bool
     }
 }
 
-// Whether a renaming goes on from the partial one, in which the variables below v are assigned.
-fn complete(s: Compared, v: u32, m: Partial) -> bool
+// 02, T-05, "the renaming itself, variable by variable": whether there is one, and where each variable of the first query goes; 32 at
+// every place without a target.
+pub struct Renaming {
+    pub found: bool,
+    pub targets: [u8; 32],
+}
+
+// There is no renaming.
+pub fn no_renaming() -> Renaming
+    ensures { λ r. ⌜ (r .found ≡ false) × (r .targets ≡ replicate places noTarget) ⌝ }
+{
+    let targets = [32u8; 32];
+    Renaming {
+        found: false,
+        targets,
+    }
+}
+
+// The targets of the partial renaming, in which every variable is assigned.
+fn all_of(m: Partial) -> Renaming
+    ensures { λ r. ⌜ (r .found ≡ true) × (r .targets ≡ m .to) ⌝ }
+{
+    let targets = m.to;
+    Renaming {
+        found: true,
+        targets,
+    }
+}
+
+// The smallest renaming that goes on from the partial one, in which the variables below v are assigned: targets are tried rising.
+fn complete(s: Compared, v: u32, m: Partial) -> Renaming
     requires { ⌜ Ready s × (v ≤ 32) × Begun (queryOf (s .p)) v m × (promisingIn (mayBecome m) (queryOf (s .p)) (queryOf (s .q)) ≡ true) ⌝ }
-    ensures { λ r. ⌜ DecidesAlike s m r ⌝ }
+    ensures { λ r. ⌜ Completes s m (r .found) (r .targets) ⌝ }
 {
     if v == 32 {
-        return true;
+        return all_of(m);
     }
     if !has(s.sources, v) {
         return complete(s, v + 1, m);
@@ -148,8 +179,9 @@ fn complete(s: Compared, v: u32, m: Partial) -> bool
         if offers(s, v, w, m) {
             let next = assign(m, v, w);
             if viable(s, v, next) {
-                if complete(s, v + 1, next) {
-                    return true;
+                let r = complete(s, v + 1, next);
+                if r.found {
+                    return r;
                 } else {
                     w += 1;
                 }
@@ -160,33 +192,36 @@ fn complete(s: Compared, v: u32, m: Partial) -> bool
             w += 1;
         }
     }
-    false
+    no_renaming()
 }
 
-// Whether there is a renaming, nothing being assigned yet.
-fn found(s: Compared, m: Partial) -> bool
+// The smallest renaming, nothing being assigned yet.
+fn first_of(s: Compared, m: Partial) -> Renaming
     requires { ⌜ Ready s × Begun (queryOf (s .p)) 0 m × (promisingIn (mayBecome m) (queryOf (s .p)) (queryOf (s .q)) ≡ true) ⌝ }
-    ensures { λ r. ⌜ DecidesAlike s m r ⌝ }
+    ensures { λ r. ⌜ Completes s m (r .found) (r .targets) ⌝ }
 {
     let p = s.p;
     let q = s.q;
     if spread_alike(p, q) {
         if hopeful(s, 0xFFFFFFFF, 0, m) {
-            return complete(s, 0, m);
+            complete(s, 0, m)
+        } else {
+            no_renaming()
         }
+    } else {
+        no_renaming()
     }
-    false
 }
 
-// Whether the two queries are alike: whether a one-to-one renaming of variables carries the one to the other.
-pub fn alike(p: QueryWords, q: QueryWords) -> bool
+// The smallest one-to-one renaming of variables that carries p to q, or that there is none.
+pub fn rename(p: QueryWords, q: QueryWords) -> Renaming
     requires { ⌜ Small p × Small q ⌝ }
-    ensures { λ r. ⌜ r ≡ alikeIn (queryOf p) (queryOf q) ⌝ }
+    ensures { λ r. ⌜ HandedBack (queryOf p) (queryOf q) (r .found) (r .targets) ⌝ }
 {
     let m = nothing();
     if promising(m, p, q) {
-        found(prepared(p, q), m)
+        first_of(prepared(p, q), m)
     } else {
-        false
+        no_renaming()
     }
 }

@@ -40,6 +40,9 @@ pub mod LostTags
 pub mod Matches
 pub mod Answers
 pub mod Finding
+-- the renaming that is handed back
+pub mod Targets
+pub mod SmallestFound
 -- both readers agree
 pub mod Soundness
 pub mod Depth

@@ -1,5 +1,5 @@
 -- The definitions, in reading order: Lists, Refusals, Syntax, LostTags, Chase, Qualified, QualifiedChase, Rewriting,
--- Renaming, Union, Writing, Evaluation.
+-- Renaming, Union, Writing, Evaluation, Targets.
 pub mod Lists
 pub mod Refusals
 pub mod Syntax
@@ -12,4 +12,5 @@ pub mod Renaming
 pub mod Union
 pub mod Writing
 pub mod Evaluation
+pub mod Targets
 pub mod Laws

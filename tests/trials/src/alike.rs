@@ -8,14 +8,14 @@ use std::hash::{Hash, Hasher};
 
 /// Part of a one-to-one renaming, in both directions.
 #[derive(Clone, Copy, Default)]
-struct Renaming {
-    forth: [Option<u8>; 32],
+pub struct Renaming {
+    pub forth: [Option<u8>; 32],
     back: [Option<u8>; 32],
 }
 
 impl Renaming {
     /// Extends the renaming so that it carries `from` to `to`; false if that cannot be.
-    fn carry(&mut self, from: Term, to: Term) -> bool {
+    pub fn carry(&mut self, from: Term, to: Term) -> bool {
         match (from, to) {
             (Term::Object(a), Term::Object(b)) => a == b,
             (Term::Variable(x), Term::Variable(y)) => {
@@ -27,7 +27,7 @@ impl Renaming {
         }
     }
 
-    fn carry_atom(&mut self, from: Atom<Term>, to: Atom<Term>) -> bool {
+    pub fn carry_atom(&mut self, from: Atom<Term>, to: Atom<Term>) -> bool {
         match (from, to) {
             (Atom::Concept(a, t), Atom::Concept(b, u)) => a == b && self.carry(t, u),
             (Atom::Role(p, t, u), Atom::Role(q, v, w)) => p == q && self.carry(t, v) && self.carry(u, w),

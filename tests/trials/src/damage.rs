@@ -27,7 +27,7 @@ fn absent_variable(question: &Question, chance: &mut Chance) -> Term {
 }
 
 /// An answer variable that stands in no atom. One already there is replaced, so that the count stays, unless there is none.
-fn lose_answer(question: &mut Question, chance: &mut Chance) {
+pub fn lose_answer(question: &mut Question, chance: &mut Chance) {
     let absent = absent_variable(question, chance);
     if question.answers.is_empty() {
         question.answers.push(absent);
@@ -38,7 +38,7 @@ fn lose_answer(question: &mut Question, chance: &mut Chance) {
 }
 
 /// One atom twice.
-fn repeat_atom(question: &mut Question, chance: &mut Chance) {
+pub fn repeat_atom(question: &mut Question, chance: &mut Chance) {
     if question.atoms.is_empty() {
         return;
     }
@@ -62,7 +62,7 @@ fn other_count(question: &mut Question, chance: &mut Chance) {
 }
 
 /// A near miss of alike: one variable for two, two for one, or two that change places in one atom or in the answer terms.
-fn rename_badly(question: &mut Question, chance: &mut Chance) {
+pub fn rename_badly(question: &mut Question, chance: &mut Chance) {
     let is_variable = |t: &Term| matches!(t, Term::Variable(_));
     let standing: Vec<Term> = question
         .atoms
@@ -96,7 +96,7 @@ fn rename_badly(question: &mut Question, chance: &mut Chance) {
 }
 
 /// A change of one place of a question, small enough to be overlooked.
-fn change_place(question: &mut Question, chance: &mut Chance) {
+pub fn change_place(question: &mut Question, chance: &mut Chance) {
     if question.atoms.is_empty() {
         return;
     }

@@ -126,7 +126,7 @@ fn question_bits(bytes: &mut [u8], chance: &mut Chance) {
     }
 }
 
-fn question_sheet(bytes: &mut Vec<u8>, chance: &mut Chance) {
+pub fn question_sheet(bytes: &mut Vec<u8>, chance: &mut Chance) {
     match chance.below(6) {
         0 => longer(bytes, 7, chance),
         1 => shorter(bytes, 7, chance),

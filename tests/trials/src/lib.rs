@@ -24,6 +24,10 @@ pub mod matches;
 pub mod near_misses;
 pub mod pair_kinds;
 pub mod refusals;
+pub mod rename_cases;
+pub mod rename_kinds;
+pub mod rename_questions;
+pub mod renamings;
 pub mod rewrite;
 pub mod rule_sheet;
 pub mod scan;
@@ -35,6 +39,8 @@ pub mod write;
 mod pair_refusal_vectors;
 #[cfg(test)]
 mod pair_vectors;
+#[cfg(test)]
+mod rename_vectors;
 #[cfg(test)]
 mod union_vectors;
 #[cfg(test)]

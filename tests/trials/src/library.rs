@@ -1,6 +1,7 @@
 //! The proved library, through its safe wrapper.
 
 use crate::refusals::Sheets;
+use crate::renamings;
 
 /// The number that checking returns.
 pub fn check(sheets: &Sheets) -> u32 {
@@ -24,4 +25,10 @@ pub fn member(sheet: &[u8], m: usize) -> (usize, usize) {
 pub fn write(rules: &[u8], question: &[u8], sheet: &mut [u8]) -> (u32, u64, u64) {
     let written = takwishan::write_outcome(rules, question, sheet);
     (written.number, written.count, written.length)
+}
+
+/// Everything that comparing two questions returns.
+pub fn rename(first: &[u8], second: &[u8]) -> renamings::Outcome {
+    let takwishan::RenameOutcome { number, found, targets } = takwishan::rename_outcome(first, second);
+    renamings::Outcome { number, found, targets }
 }

@@ -9,6 +9,9 @@ mod memo_search;
 mod memo_tables;
 mod near_counts;
 mod pair_counts;
+mod rename_counts;
+#[cfg(test)]
+mod rename_faults;
 mod tally;
 mod writing;
 
@@ -30,6 +33,8 @@ const ONE_CLASH_IN: u64 = 5;
 const ONE_NEAR_MISS_IN: u64 = 5;
 /// One in so many has a dense case beside it.
 const ONE_DENSE_IN: u64 = 12;
+/// One in so many has a pair of questions beside it, to be renamed.
+const ONE_RENAMING_IN: u64 = 2;
 /// One in so many is damaged so that two numbers hold whose order matters.
 const ONE_ORDER_IN: usize = 30;
 /// Differences that are printed before the run is given up.
@@ -133,6 +138,9 @@ fn run(seed: u64, cases: u64) -> bool {
         }
         if case % ONE_DENSE_IN == 0 {
             tally.compare_dense(seed, case / ONE_DENSE_IN);
+        }
+        if case % ONE_RENAMING_IN == 0 {
+            tally.compare_rename(seed, case / ONE_RENAMING_IN);
         }
         if tally.differences >= MOST_DIFFERENCES {
             println!("given up after {} cases", case + 1);

@@ -158,7 +158,7 @@ fn forked(names: &Names, chance: &mut Chance) -> (Vec<Rule>, Question) {
 }
 
 /// A question that meets none of 3 to 5.
-fn question(names: &Names, chance: &mut Chance) -> Question {
+pub fn question(names: &Names, chance: &mut Chance) -> Question {
     let many = 1 + chance.weighed(&[15, 30, 25, 15, 6, 4, 3, 2]);
     let mut variables: Vec<u8> = (0..=31).collect();
     if chance.one_in(2) {

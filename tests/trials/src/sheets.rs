@@ -201,10 +201,20 @@ fn atom_twice(question: &Question) -> bool {
     (0..atoms.len()).any(|i| atoms[..i].contains(&atoms[i]))
 }
 
+/// A question sheet that does not meet 3.
+fn whole_question(bytes: &[u8]) -> Option<Question> {
+    let mut bits = Bits::new(bytes);
+    question_from(&mut bits).filter(|_| bits.ended())
+}
+
+/// Whether 4 and 5 hold both, of which 4 is given.
+pub fn meets_4_and_5(bytes: &[u8]) -> bool {
+    whole_question(bytes).is_some_and(|question| answer_stands_nowhere(&question) && atom_twice(&question))
+}
+
 /// Refusals 3, 4 and 5.
 pub fn question(bytes: &[u8]) -> Result<Question, u32> {
-    let mut bits = Bits::new(bytes);
-    let question = question_from(&mut bits).filter(|_| bits.ended()).ok_or(3u32)?;
+    let question = whole_question(bytes).ok_or(3u32)?;
     if answer_stands_nowhere(&question) {
         return Err(4);
     }

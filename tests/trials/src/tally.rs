@@ -1,13 +1,15 @@
 //! Calls the library and compares what it does with what the second implementation expects; counts what kinds of cases were met.
-//! Writing, pairs and helpers, near misses and dense cases have files of their own.
+//! Writing, pairs and helpers, near misses, dense cases and renamings have files of their own.
 
 use crate::dense_counts::DenseCounts;
 use crate::lent::Lent;
 use crate::near_counts::NearCounts;
 use crate::pair_counts::{Call, PairCounts};
+use crate::rename_counts::RenameCounts;
 use crate::writing::Writings;
 use trials::chance::Chance;
 use trials::refusals::{self, check, draw, Drawn, Outcome, Sheets};
+use trials::renamings::MOST_TRIED;
 use trials::{library, rewrite, sheets};
 
 /// Cases whose rounds take more things than this are set aside.
@@ -34,10 +36,11 @@ pub struct Tally {
     pub pairs: PairCounts,
     pub near: NearCounts,
     pub dense: DenseCounts,
+    pub renames: RenameCounts,
     pub differences: usize,
 }
 
-fn hex(bytes: &[u8]) -> String {
+pub fn hex(bytes: &[u8]) -> String {
     bytes.iter().map(|byte| format!("{byte:02x}")).collect()
 }
 
@@ -198,10 +201,10 @@ impl Tally {
         }
     }
 
-    /// The counts, and whether they are enough.
-    pub fn told(&self) -> bool {
+    /// What is told beside the counts.
+    fn tell_asides(&self) {
         println!(
-            "trials of check, answer, member and write: {} cases, {} calls, {} set aside",
+            "trials of check, answer, member, write and rename: {} cases, {} calls, {} set aside",
             self.cases, self.calls, self.set_aside
         );
         println!(
@@ -220,48 +223,54 @@ impl Tally {
             "dense cases that chance did not give: {}, whose kinds took too much to find out: {}",
             self.dense.not_given, self.dense.not_judged
         );
-        let mut enough = true;
-        let mut count = |what: &str, got: u64, least: u64| {
-            println!("{what}: {got} (at least {least})");
-            enough &= got >= least;
-        };
-        for number in (1..=14).chain([17, 18]) {
-            count(
-                &format!("met {number}, {} times before a later one", self.hid[number]),
-                self.met[number],
-                50,
-            );
-        }
+        let [renamed, unlike] = self.renames.larger;
+        println!("pairs of more than {MOST_TRIED} variables with a renaming: {renamed}, without one: {unlike}");
+    }
+
+    /// The counts of checking and drawing with what they must be at least.
+    fn counts(&self) -> Vec<(String, u64, u64)> {
+        let met = (1..=14).chain([17, 18]).map(|number| {
+            let what = format!("met {number}, {} times before a later one", self.hid[number]);
+            (what, self.met[number], 50)
+        });
+        let mut all = Vec::from_iter(met);
+        let mut count = |what: &str, got, least| all.push((format!("accepted, with {what}"), got, least));
+        count("an answer that member 0 alone does not find", self.beyond_member_0, 500);
+        count("rounds that never end", self.never_end, 200);
         count(
-            "accepted, with an answer that member 0 alone does not find",
-            self.beyond_member_0,
-            500,
-        );
-        count("accepted, with rounds that never end", self.never_end, 200);
-        count(
-            "accepted, with an answer that no member reached without a merge finds",
+            "an answer that no member reached without a merge finds",
             self.need_merge,
             100,
         );
-        count("accepted, with a tuple left out for a lost tag", self.left_out, 300);
+        count("a tuple left out for a lost tag", self.left_out, 300);
         count(
-            "accepted, with answers and a list that has no room for the tuples left out too",
+            "answers and a list that has no room for the tuples left out too",
             self.room_for_answers_only,
             100,
         );
         count(
-            "accepted, with an answer every match of which uses a lost tag",
+            "an answer every match of which uses a lost tag",
             self.need_lost_tag,
             100,
         );
-        let others = [
+        all
+    }
+
+    /// All counts, and whether they are enough.
+    pub fn told(&self) -> bool {
+        self.tell_asides();
+        let counts = [
+            self.counts(),
             self.writings.counts(),
             self.pairs.counts(),
             self.near.counts(),
             self.dense.counts(),
+            self.renames.counts(),
         ];
-        for (what, got, least) in others.concat() {
-            count(&what, got, least);
+        let mut enough = true;
+        for (what, got, least) in counts.concat() {
+            println!("{what}: {got} (at least {least})");
+            enough &= got >= least;
         }
         println!("differences: {}", self.differences);
         enough && self.differences == 0

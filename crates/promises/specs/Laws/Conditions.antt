@@ -34,6 +34,19 @@ none-both (c ∷ cs) ds =
       λ h. (h .0 .0, rest .1 (h .0 .1, h .1)),
     )
 
+-- a refusal by one list of conditions, and else by another
+pub with-more : (cs ds : List {1} (ℕ × Type 0)) (o o′ : Option ℕ) → ((n : ℕ) → (o ≡ some n) ↔ First cs n) → (o ≡ none) ↔ NoneHolds cs
+    → ((n : ℕ) → (o′ ≡ some n) ↔ First ds n) → (n : ℕ) → (orElse o o′ ≡ some n) ↔ First (cs ++ ds) n
+unfolding orElse
+with-more cs ds none o′ refused passed later n = (
+  λ e. first-both cs ds n .1 (inr (passed .0 refl, later n .0 e)),
+  λ h. elim (first-both cs ds n .0 h) [ inl k ↦ absurd (none≢some (refused n .1 k)) | inr k ↦ later n .1 (k .1) ],
+)
+with-more cs ds (some m) o′ refused passed later n = (
+  λ e. first-both cs ds n .1 (inl (refused n .0 e)),
+  λ h. elim (first-both cs ds n .0 h) [ inl k ↦ refused n .1 k | inr k ↦ absurd (none≢some (sym (passed .1 (k .0)))) ],
+)
+
 -- A refusal by a list of conditions, and else one more by a test: what it says of the list with the last condition behind it. The test need
 -- decide its condition only where the list's refusals do not apply.
 module _ (conditions : List {1} (ℕ × Type 0)) (o : Option ℕ) (refused : (n : ℕ) → (o ≡ some n) ↔ First conditions n) (passed : (o ≡ none)

@@ -19,7 +19,7 @@ use Rattle.theory.specs.Qualified.{refuses18, Meets18}
 use Rattle.theory.specs.Laws.QualifiedPlaces.{refuses18-iff}
 use Rattle.theory.specs.Laws.UnionTests.{refuses7-iff, refuses8-iff, refuses9-iff, refuses10-iff, refuses11-iff}
 use Rattle.sheets.specs.Format.{termCount}
-use Rattle.sheets.specs.Refusals.{Sheets, Which, Refusal, within, questionAndUnion, checking}
+use Rattle.sheets.specs.Refusals.{Sheets, Which, Refusal, within, onlyQuestion, questionAndUnion, checking}
 use Rattle.sheets.specs.Refusals.{drawing, readRules, readQuestion, readUnion, refusals, testsFor, conditionsFor, refusalOf, numberOf}
 use Rattle.sheets.specs.Refusals.{writtenRules, ruleRoles, questionRoles, factRoles, rulesAndFacts, writing, ruleRefusals}
 use Rattle.sheets.specs.Refusals.{questionRefusals, factRefusals}
@@ -169,6 +169,11 @@ module _ (partners : List ℕ) (w : ℕ) (sheets : Sheets) where
       first-append (ruleRefusals partners w (sheets .rules)) (questionRefusals partners w (sheets .question) ++ clashRefusals)
       ∙ ap (orElse (firstRefusal (ruleRefusals partners w (sheets .rules))))
       (first-append (questionRefusals partners w (sheets .question)) clashRefusals)
+
+  -- comparing takes question sheets, each judged by itself: 3 to 5
+  pub question-alone : refusalOf partners w onlyQuestion sheets ≡ firstRefusal (questionRefusals partners w (sheets .question))
+  unfolding refusalOf testsFor refusals questionRefusals
+  question-alone = refl
 
   -- the other calls, by the sheets that they take
   pub question-and-union : refusalOf partners w questionAndUnion sheets

@@ -36,15 +36,18 @@ module _ (may : Term → Term → Bool) (p q : Query) where
 
   -- where the terms of p may become their images only, a one-to-one map that is promising is a renaming
   pub promising-renaming : (to : ℕ → ℕ) → ((u v : ℕ) → var u ∈ terms p → var v ∈ terms p → to u ≡ to v → u ≡ v)
-      → ((s t : Term) → s ∈ terms p → T (may s t) → rename to s ≡ t) → T (promising may p q) → Alike p q
-  promising-renaming to one-to-one image t =
-      record {
-        to = to;
-        one-to-one = one-to-one;
-        on-answers = pairwise-image may (rename to) (p .answers) (q .answers) (λ s t m. image s t (terms-answers p m)) (r .0);
-        into = λ a m. (let b = r .1 a m in Memᴰ·cast (image-atom a (b .0) m (b .2)) (b .1));
-        onto = λ b m. (let a = r .2 b m in (a .0, a .1, image-atom (a .0) b (a .1) (a .2)));
-      }
+      → ((s t : Term) → s ∈ terms p → T (may s t) → rename to s ≡ t) → T (promising may p q)
+      → (r : Alike p q) × ((v : ℕ) → r .to v ≡ to v)
+  promising-renaming to one-to-one image t = (
+    record {
+      to = to;
+      one-to-one = one-to-one;
+      on-answers = pairwise-image may (rename to) (p .answers) (q .answers) (λ s t m. image s t (terms-answers p m)) (r .0);
+      into = λ a m. (let b = r .1 a m in Memᴰ·cast (image-atom a (b .0) m (b .2)) (b .1));
+      onto = λ b m. (let a = r .2 b m in (a .0, a .1, image-atom (a .0) b (a .1) (a .2)));
+    },
+    λ v. refl,
+  )
     where
       r : Promising
       r = promising-iff .0 t

@@ -62,10 +62,10 @@ complete-found p q (v ∷ sources) free ps t o f e =
     )
 
 -- where each variable of p goes, and a number for the others
-target : Pairs → ℕ → ℕ
+pub target : Pairs → ℕ → ℕ
 target ps v = elim (lookup ps v) [ none ↦ 0 | some w ↦ w ]
 
-target-is : (ps : Pairs) (v w : ℕ) → lookup ps v ≡ some w → target ps v ≡ w
+pub target-is : (ps : Pairs) (v w : ℕ) → lookup ps v ≡ some w → target ps v ≡ w
 unfolding target
 target-is ps v w e = ap (λ o. elim o [ none ↦ 0 | some w ↦ w ]) e
 
@@ -81,27 +81,33 @@ mayBe-image ps (const c) (const d) h t = ap const (T-eqb c d .0 t)
 
 -- promising one-to-one pairs that assign every variable of p are a renaming
 renaming-of : (p q : Query) (ps : Pairs) → T (promising (mayBe ps) p q) → OneToOne ps → ((v : ℕ) → var v ∈ terms p → Assigned ps v)
-    → Alike p q
+    → (r : Alike p q) × ((v : ℕ) → r .to v ≡ target ps v)
 renaming-of p q ps t o assigned =
     promising-renaming (mayBe ps) p q (target ps)
     (λ u v m n e. let a = assigned u m in let b = assigned v n in
     o u v (a .0) (a .1) (b .1 ∙ ap some (sym (target-is ps v (b .0) (b .1)) ∙ sym e ∙ target-is ps u (a .0) (a .1))))
     (λ s t m. mayBe-image ps s t (λ v e. assigned v (Memᴰ·cast (sym e) m))) t
 
-alike-sound : (p q : Query) → T (alike p q) → Alike p q
-unfolding alike lookup
-alike-sound p q t =
-    let r = isSome-some (findRenaming p q) .0 t in
-    let s = tested-found (promising (mayBe []) p q) (complete p q (variables (terms p)) (variables (terms q)) []) (r .1) in
+-- the pairs found assign every variable of p, and send each where a renaming does
+pub found-renaming : (p q : Query) {ps : Pairs} → findRenaming p q ≡ some ps
+    → ((v : ℕ) → var v ∈ terms p → Assigned ps v) × ((r : Alike p q) × ((v : ℕ) → r .to v ≡ target ps v))
+unfolding findRenaming lookup
+found-renaming p q {ps} e =
+    let s = tested-found (promising (mayBe []) p q) (complete p q (variables (terms p)) (variables (terms q)) []) e in
     let c = complete-found p q (variables (terms p)) (variables (terms q)) [] (s .0)
     (λ u v w d. absurd (none≢some d)) (λ w m v d. none≢some d) (s .1) in
-    renaming-of p q (r .0) (c .0) (c .1) (λ v m. c .2 v (inl (mem-variables (terms p) m)))
+    let assigned : (v : ℕ) → var v ∈ terms p → Assigned ps v = λ v m. c .2 v (inl (mem-variables (terms p) m)) in
+    (assigned, renaming-of p q ps (c .0) (c .1) assigned)
+
+alike-sound : (p q : Query) → T (alike p q) → Alike p q
+unfolding alike
+alike-sound p q t = found-renaming p q (isSome-some (findRenaming p q) .0 t .1) .1 .0
 
 -- ---- where there is a renaming the search gives one
 
 module _ (p q : Query) (r : Alike p q) where
   -- every pair is a variable of p and where it goes
-  abbrev Follows : Pairs → Type 0
+  abbrev pub Follows : Pairs → Type 0
   Follows ps = (e : ℕ × ℕ) → e ∈ ps → (var (e .0) ∈ terms p) × (r .to (e .0) ≡ e .1)
 
   -- such pairs speak against no term of p and its image, and so are promising
@@ -122,32 +128,39 @@ module _ (p q : Query) (r : Alike p q) where
           T-eqb w (r .to v) .1 (sym (h .3) ∙ sym (f (h .0) (h .1) .1) ∙ ap (r .to) (h .2))
   follows-mayBe ps f (const c) m = T-eqb c c .1 refl
 
-  follows-promising : (ps : Pairs) → Follows ps → T (promising (mayBe ps) p q)
+  pub follows-promising : (ps : Pairs) → Follows ps → T (promising (mayBe ps) p q)
   follows-promising ps f = renaming-promising (mayBe ps) p q r (follows-mayBe ps f)
 
+  -- the sources left stand in p, and their targets are free
+  abbrev pub Open : List ℕ → List ℕ → Type 0
+  Open sources free = (v : ℕ) → v ∈ sources → (var v ∈ terms p) × (r .to v ∈ free)
+
+  -- once the first has its target, those of the others are still free
+  pub others-open : (v : ℕ) (sources free : List ℕ) → Unrepeated (v ∷ sources) → Open (v ∷ sources) free
+      → Open sources (without (eqb (r .to v)) free)
+  others-open v sources free u h x m =
+      let k = h x (List·Memᴰ·tail m) in (
+        k .0,
+        without-mem (eqb (r .to v)) (k .1) (λ t.
+            u .0 (Memᴰ·cast (r .one-to-one v x (h v here .0) (k .0) (T-eqb (r .to v) (r .to x) .0 t)) m)),
+      )
+
   -- such pairs can be completed, as long as the sources left stand in p, each once, and their targets are free
-  complete-gives : (sources free : List ℕ) (ps : Pairs) → Follows ps → Unrepeated sources
-      → ((v : ℕ) → v ∈ sources → (var v ∈ terms p) × (r .to v ∈ free)) → T (isSome (complete p q sources free ps))
+  pub complete-gives : (sources free : List ℕ) (ps : Pairs) → Follows ps → Unrepeated sources → Open sources free
+      → T (isSome (complete p q sources free ps))
   unfolding complete isSome
   complete-gives [] free ps f u h = tt
   complete-gives (v ∷ sources) free ps f u h =
       firstSome-of _ (h v here .1)
       (tested-of (promising (mayBe next) p q) (complete p q sources (without (eqb (r .to v)) free) next)
-      (follows-promising next follows) (complete-gives sources (without (eqb (r .to v)) free) next follows (u .1) left))
+      (follows-promising next follows)
+      (complete-gives sources (without (eqb (r .to v)) free) next follows (u .1) (others-open v sources free u h)))
     where
       next : Pairs
       next = (v, r .to v) ∷ ps
 
       follows : Follows next
       follows = forall-cons (h v here .0, refl) f
-
-      left : (x : ℕ) → x ∈ sources → (var x ∈ terms p) × (r .to x ∈ without (eqb (r .to v)) free)
-      left x m =
-          let k = h x (List·Memᴰ·tail m) in (
-            k .0,
-            without-mem (eqb (r .to v)) (k .1) (λ t.
-                u .0 (Memᴰ·cast (r .one-to-one v x (h v here .0) (k .0) (T-eqb (r .to v) (r .to x) .0 t)) m)),
-          )
 
 alike-complete : (p q : Query) → Alike p q → T (alike p q)
 unfolding alike

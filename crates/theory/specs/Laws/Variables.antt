@@ -26,7 +26,7 @@ insertVar-inserts = (
 )
 
 -- the variables of terms are ascending, and they are exactly those that stand among the terms
-variables-ascending : (ts : List Term) → Ascending _<_ (variables ts)
+pub variables-ascending : (ts : List Term) → Ascending _<_ (variables ts)
 unfolding variables
 variables-ascending [] = tt
 variables-ascending (var v ∷ ts) =
