@@ -88,7 +88,7 @@ module _ {X : Type 0} (Less : X → X → Type 0) where
           | inr n ↦ Memᴰ.tail (inserted_mem xs n)
         ]
 
-    pub mem_inserted : {xs : List X} {z : X} → z ∈ xs → z ∈ foldr insert [] xs
+    pub mem_inserted : {z : X} {xs : List X} → z ∈ xs → z ∈ foldr insert [] xs
     mem_inserted (Memᴰ.head {x = x} {xs = xs} e) = mem_insert x (foldr insert [] xs) (Memᴰ.head e)
     mem_inserted (Memᴰ.tail {x = x} {xs = xs} m) = mem_insert x (foldr insert [] xs) (Memᴰ.tail (mem_inserted m))
 

@@ -1,5 +1,5 @@
 -- What `fresh` means. 01: "The fresh variable z is the lowest number that stands nowhere in the question before the step."
-use Rattle.std.specs.Prelude.{◌≡◌, refl, ℕ, zero, suc, ◌+◌, ◌≤◌, ◌<◌, Bool, true, false, List, ◌∷◌, T}
+use Rattle.std.specs.Prelude.{◌≡◌, refl, ℕ, zero, suc, ◌+◌, ◌≤◌, ◌<◌, Bool, true, false, List, [], ◌∷◌, T}
 use Rattle.std.proofs.Common.{sym, ap, subst, inl, inr, eq-or-lt_of_le, arith}
 use mathlib.Core.List.Memᴰ
 use Rattle.theory.specs.Lists.{◌∈◌, pick, any}
@@ -11,6 +11,7 @@ use Rattle.theory.specs.Laws.Syntax.{same_term_iff}
 -- every variable among the terms is below their bound
 bound_above : (ts : List Term) (v : ℕ) → var v ∈ ts → v < bound ts
 unfolding bound
+bound_above [] v m = elim m [ ]
 bound_above (var u ∷ ts) v (Memᴰ.head e) = let d : v ≡ u = cc in omega arith
 bound_above (var u ∷ ts) v (Memᴰ.tail m) = let h : v < bound ts = bound_above ts v m in omega arith
 bound_above (const c ∷ ts) v (Memᴰ.head e) = absurd (let z : ◌≡◌ {A = ℕ} 0 1 = cc in omega arith)

@@ -47,7 +47,7 @@ module _ {X : Type 0} where
         | inr h ↦ (let r = any_found p xs h in (r.0, Memᴰ.tail r.1, r.2))
       ]
 
-  any_of : (p : X → Bool) {xs : List X} {x : X} → x ∈ xs → T (p x) → T (any p xs)
+  any_of : (p : X → Bool) {x : X} {xs : List X} → x ∈ xs → T (p x) → T (any p xs)
   unfolding any
   any_of p (Memᴰ.head {x = y} {xs = ys} e) t = (T_or (p y) (any p ys)).1 (inl (subst (λ z. T (p z)) e t))
   any_of p (Memᴰ.tail {x = y} {xs = ys} m) t = (T_or (p y) (any p ys)).1 (inr (any_of p m t))
@@ -138,7 +138,7 @@ module _ {X : Type 0} where
             | inr k ↦ later (below k)
           ]
 
-  pub without_mem : (p : X → Bool) {xs : List X} {y : X} → y ∈ xs → ¬ T (p y) → y ∈ without p xs
+  pub without_mem : (p : X → Bool) {y : X} {xs : List X} → y ∈ xs → ¬ T (p y) → y ∈ without p xs
   unfolding without
   without_mem p (Memᴰ.head {x = z} {xs = zs} e) f =
       mem_along (sym (pick_false (p z) (without p zs) (z ∷ without p zs) (λ t. f (subst (λ w. T (p w)) (sym e) t)))) (Memᴰ.head e)
@@ -195,7 +195,7 @@ module _ {X : Type 0} where
     once_mem (x ∷ xs) (Memᴰ.head e) = Memᴰ.head e
     once_mem (x ∷ xs) (Memᴰ.tail m) = Memᴰ.tail (once_mem xs (mem_without (same x) (once same xs) m).0)
 
-    pub mem_once : {xs : List X} {y : X} → y ∈ xs → y ∈ once same xs
+    pub mem_once : {y : X} {xs : List X} → y ∈ xs → y ∈ once same xs
     unfolding once
     mem_once (Memᴰ.head e) = Memᴰ.head e
     mem_once {y = y} (Memᴰ.tail {x = x} m) =
@@ -255,7 +255,7 @@ module _ {X Y : Type 0} where
       go none d later e = let r = later e in (r.0, Memᴰ.tail r.1, r.2)
       go (some z) d later e = (x, here, d ∙ e)
 
-  pub first_some_of : (f : X → Option Y) {xs : List X} {x : X} → x ∈ xs → T (is_some (f x)) → T (is_some (first_some f xs))
+  pub first_some_of : (f : X → Option Y) {x : X} {xs : List X} → x ∈ xs → T (is_some (f x)) → T (is_some (first_some f xs))
   unfolding first_some is_some
   first_some_of f (Memᴰ.head {x = y} {xs = ys} e) t = go (f y) (subst (λ z. T (is_some (f z))) e t)
     where
@@ -277,7 +277,7 @@ module _ {X Y : Type 0} where
         | inr h ↦ (let r = flat_map_found f xs h in (r.0, Memᴰ.tail r.1, r.2))
       ]
 
-  pub flat_map_of : (f : X → List Y) {xs : List X} {x : X} {y : Y} → x ∈ xs → y ∈ f x → y ∈ flat_map f xs
+  pub flat_map_of : (f : X → List Y) {x : X} {xs : List X} {y : Y} → x ∈ xs → y ∈ f x → y ∈ flat_map f xs
   unfolding flat_map
   flat_map_of f {y = y} (Memᴰ.head {xs = zs} e) t = Memᴰ.append_left (flat_map f zs) (subst (λ z. y ∈ f z) e t)
   flat_map_of f (Memᴰ.tail {x = z} m) t = Memᴰ.append_right (f z) (flat_map_of f m t)
@@ -343,7 +343,7 @@ module _ {X : Type 0} where
   at_mem (y ∷ ys) zero e = Memᴰ.head (sym (some_inj e))
   at_mem (y ∷ ys) (suc i) e = Memᴰ.tail (at_mem ys i e)
 
-  pub mem_at : {xs : List X} {x : X} → x ∈ xs → (i : ℕ) × At xs i x
+  pub mem_at : {x : X} {xs : List X} → x ∈ xs → (i : ℕ) × At xs i x
   mem_at (Memᴰ.head e) = (zero, ap some (sym e))
   mem_at (Memᴰ.tail m) = let r = mem_at m in (suc r.0, r.1)
 

@@ -46,5 +46,6 @@ lookup_found (e ∷ ps) v d =
     ]
 
 pub mem_assigned : (ps : Pairs) {e : ℕ × ℕ} → e ∈ ps → Assigned ps e.0
+mem_assigned [] {e = e} m = elim m [ ]
 mem_assigned (d ∷ ps) {e} (Memᴰ.head h) = (d.1, lookup_head d ps e.0 (ap (λ x. x.0) (sym h)))
 mem_assigned (d ∷ ps) {e} (Memᴰ.tail m) = assigned_cons d ps e.0 (mem_assigned ps m)

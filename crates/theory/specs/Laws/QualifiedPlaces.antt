@@ -120,7 +120,7 @@ module _ {X : Type 0} where
   unrepeated_second [] ys u = u
   unrepeated_second (x ∷ xs) ys u = unrepeated_second xs ys u.1
 
-  unrepeated_apart : {xs : List X} (ys : List X) {x : X} → Unrepeated (xs ++ ys) → x ∈ xs → ¬ (x ∈ ys)
+  unrepeated_apart : {x : X} {xs : List X} (ys : List X) → Unrepeated (xs ++ ys) → x ∈ xs → ¬ (x ∈ ys)
   unrepeated_apart ys u (Memᴰ.head {xs = xs} e) n = u.0 (Memᴰ.append_right xs (Memᴰ.cast (sym e) n))
   unrepeated_apart ys u (Memᴰ.tail m) n = unrepeated_apart ys u.1 m n
 

@@ -23,6 +23,7 @@ use Rattle.theory.specs.Laws.Variables.{variables_ascending, variables_mem, mem_
 
 -- maps with one list of values agree at every element, and back
 same_values : (t t' : ℕ → ℕ) (vs : List ℕ) → map t vs ≡ map t' vs → (v : ℕ) → v ∈ vs → t v ≡ t' v
+same_values t t' [] e v m = elim m [ ]
 same_values t t' (u ∷ vs) e v (Memᴰ.head d) = ap t d ∙ ap (λ l. get_or l 0 0) e ∙ ap t' (sym d)
 same_values t t' (u ∷ vs) e v (Memᴰ.tail m) = same_values t t' vs (ap rest e) v m
   where
