@@ -1,3 +1,5 @@
 // The bytes of records: moved, written, cleared, and compared as numbers.
+#![tactic(auto)]
+
 pub mod moves;
 pub mod numbers;

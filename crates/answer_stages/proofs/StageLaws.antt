@@ -14,7 +14,7 @@ use Rattle.theory.specs.Syntax.{const, Member, Rule, Query, UCQ}
 use Rattle.theory.specs.Union.{Accepted, refuses7, refuses8, refuses9, refuses10, refuses11, check}
 use Rattle.theory.specs.Evaluation.{answers_of}
 use Rattle.theory.specs.Laws.Lists.{mem_along}
-use Rattle.theory.specs.Laws.Union.{check_accepts}
+use Rattle.theory.proofs.Laws.Union.{check_accepts}
 use Rattle.words.specs.FactWords.{ZeroBits}
 use Rattle.words.specs.Laws.FactHeads.{zero_bits}
 use Rattle.words.specs.Limits.{sheet_width, object_bound, most_facts}
@@ -23,8 +23,8 @@ use Rattle.words.specs.Rows.{Rows, Arity}
 use Rattle.words.specs.declared.QueryWords.{QueryWords}
 use Rattle.sheets.specs.Reading.{union_as_read, facts_as_read}
 use Rattle.sheets.specs.Tests.{refuses6}
-use Rattle.sheets.specs.Laws.ObjectRange.{facts_in_range}
-use Rattle.sheets.specs.Laws.UnionRefusals.{sound_members}
+use Rattle.sheets.proofs.Laws.ObjectRange.{facts_in_range}
+use Rattle.sheets.proofs.Laws.UnionRefusals.{sound_members}
 use Rattle.theory.specs.Qualified.{roles_of_atoms}
 use Rattle.read_helpers.specs.InUse.{clashing}
 use Rattle.read_facts.specs.FactSheets.{FactsRead}

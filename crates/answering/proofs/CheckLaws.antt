@@ -16,10 +16,10 @@ use Rattle.sheets.specs.Format.{term_count}
 use Rattle.sheets.specs.Partners.{partners01}
 use Rattle.sheets.specs.Refusals.{Sheets, rule_refusals, question_refusals, number_of}
 use Rattle.sheets.specs.Reading.{rules_as_written, rules_as_read, question_as_read}
-use Rattle.sheets.specs.Laws.OneList.{clash_refusals}
-use Rattle.promises.specs.Laws.Checking.{unclashed_number, rules_stop, question_stops, question_passes, checking_number}
+use Rattle.sheets.proofs.Laws.OneList.{clash_refusals}
+use Rattle.promises.proofs.Laws.Checking.{unclashed_number, rules_stop, question_stops, question_passes, checking_number}
 use Rattle.promises.specs.Checking.{sheets_of, check_number, Checked}
-use Rattle.promises.specs.Laws.CheckPromises.{zero_means}
+use Rattle.promises.proofs.Laws.CheckPromises.{zero_means}
 use Rattle.read_helpers.specs.InUse.{clashing}
 use Rattle.read_rules.specs.RuleWords.{RulesRead, HelpersRead}
 use Rattle.read_rules.specs.RuleLaws.{rules_within, helpers_within, clash_with, clash_of_rules}

@@ -17,13 +17,13 @@ use Rattle.words.specs.Limits.{sheet_width}
 use Rattle.sheets.specs.Partners.{partners01}
 use Rattle.sheets.specs.Refusals.{Sheets, drawing, refusal_of, number_of}
 use Rattle.sheets.specs.Reading.{rules_as_written, union_as_read, facts_as_read}
-use Rattle.sheets.specs.Laws.QuestionRefusals.{question_arity}
-use Rattle.sheets.specs.Laws.OneList.{number_zero, clash_refusals, fact_clash}
-use Rattle.promises.specs.Laws.Checking.{number_else, unclashed_number, drawing_number}
+use Rattle.sheets.proofs.Laws.QuestionRefusals.{question_arity}
+use Rattle.sheets.proofs.Laws.OneList.{number_zero, clash_refusals, fact_clash}
+use Rattle.promises.proofs.Laws.Checking.{number_else, unclashed_number, drawing_number}
 use Rattle.promises.specs.Drawing.{the_answers, terms_of, bytes_needed, outcome, Drawn}
-use Rattle.promises.specs.Laws.DrawPromises.{number_is, zero_means, fourteen_means, refused_means, count_means, list_means}
-use Rattle.promises.specs.Laws.DrawPromises.{both_readers, ascending, rest_zero}
-use Rattle.promises.specs.Laws.Drawing.{four}
+use Rattle.promises.proofs.Laws.DrawPromises.{number_is, zero_means, fourteen_means, refused_means, count_means, list_means}
+use Rattle.promises.proofs.Laws.DrawPromises.{both_readers, ascending, rest_zero}
+use Rattle.promises.proofs.Laws.Drawing.{four}
 use Rattle.read_helpers.specs.InUse.{clashing}
 use Rattle.read_rules.specs.RuleWords.{RulesRead, HelpersRead}
 use Rattle.read_rules.specs.RuleLaws.{helpers_within, clash_with}

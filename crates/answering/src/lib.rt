@@ -1,4 +1,6 @@
 // The entries that a union is handed to: it is checked against rules and question, answers are drawn with it from facts, a member is shown.
+#![tactic(auto)]
+
 ghost use Rattle.std.specs.Prelude.{◌≡◌, length};
 ghost use Rattle.promises.specs.Checking.{Checked};
 ghost use Rattle.promises.specs.Drawing.{Drawn};

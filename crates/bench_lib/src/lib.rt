@@ -1,4 +1,6 @@
 // Exported for the benchmark alone.
+#![tactic(auto)]
+
 ghost use Rattle.std.specs.Prelude.{◌≤◌, length};
 ghost use Rattle.words.specs.Limits.{most_facts};
 ghost use Rattle.words.specs.Words.{table_words};

@@ -1,4 +1,6 @@
 // What the programs that run cards print: one line for a call, with its name and all that it gave.
+#![tactic(auto)]
+
 use answering::{answer, check};
 use libc::STDOUT_FILENO;
 use write_stage::Written;

@@ -1,4 +1,6 @@
 // Words chained by their place, so that those at one place are found without the others.
+#![tactic(auto)]
+
 ghost use Rattle.std.specs.Prelude.{◌≡◌, ◌+◌, ◌-◌, ◌≤◌, ◌<◌, length, get_or, set};
 ghost use Rattle.check_chains.specs.Chains.{places, place_of, index_words, Last, Chains, Indexed, Cleared};
 

@@ -15,7 +15,7 @@ use Rattle.theory.specs.Syntax.{Rule, Query, UCQ}
 use Rattle.theory.specs.Rewriting.{rule_step, merge_step, steps}
 use Rattle.theory.specs.Renaming.{alike}
 use Rattle.theory.specs.Union.{refuses11}
-use Rattle.theory.specs.Laws.StepShape.{step_distinct}
+use Rattle.theory.proofs.Laws.StepShape.{step_distinct}
 use Rattle.theory.specs.Laws.Lists.{any_append, any_map, any_flat_map, any_iff, numbers_iff}
 use Rattle.theory.specs.Laws.Scans.{some_from, numberScans, skip, some_begins, some_later, some_found, some_none}
 use Rattle.theory.specs.Laws.Scans.{NoneIn, none_yet, none_longer, records_length}

@@ -1,4 +1,6 @@
 // Refusal 11: every step from every member leads to a question that is alike to a member.
+#![tactic(auto)]
+
 ghost use Rattle.std.specs.Prelude.{◌≡◌, true, ◌≤◌, ◌<◌, eqb, length, get_or};
 ghost use Rattle.theory.specs.Lists.{Unrepeated, any, numbers};
 ghost use Rattle.theory.specs.Syntax.{Query};

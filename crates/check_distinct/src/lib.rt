@@ -1,5 +1,7 @@
 // Refusal 10, and whether a question is alike to a member: members with another key are passed over, and where there is an index of the
 // keys only members at the key's place are looked at.
+#![tactic(auto)]
+
 ghost use Rattle.std.specs.Prelude.{◌≡◌, List, ℕ, ◌≤◌, ◌<◌, length, get_or, drop};
 ghost use Rattle.theory.specs.Lists.{Unrepeated, any};
 ghost use Rattle.theory.specs.Syntax.{Rule, Query};

@@ -8,7 +8,7 @@ use lib.ListN.{length, get_or, take, drop}
 use borrow.Author.Rules.{rules}
 use Rattle.theory.specs.Lists.{pairwise, numbers}
 use Rattle.theory.specs.Syntax.{Rule, UCQ, same_term, same_atom}
-use Rattle.theory.specs.Laws.Spellings.{same_term_exchanged, same_atom_exchanged}
+use Rattle.theory.proofs.Laws.Spellings.{same_term_exchanged, same_atom_exchanged}
 use Rattle.theory.specs.Union.{same_query, zero_step, refuses7}
 use Rattle.theory.specs.Laws.Scans.{all_from, scans, all_pairs, unequal_records}
 use Rattle.words.specs.Laws.LowVariables.{word_below}

@@ -1,4 +1,6 @@
 // Refusal 7: member 0 is the question, with no step beside it.
+#![tactic(auto)]
+
 ghost use Rattle.std.specs.Prelude.{◌≡◌, List, map, ◌≤◌, take};
 ghost use Rattle.theory.specs.Lists.{pairwise};
 ghost use Rattle.theory.specs.Syntax.{Rule, same_term, same_atom};

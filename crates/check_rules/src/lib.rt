@@ -1,4 +1,6 @@
 // The words of a rule table, each once.
+#![tactic(auto)]
+
 ghost use Rattle.std.specs.Prelude.{◌≡◌, ◌+◌, ◌≤◌, ◌<◌, length};
 ghost use Rattle.check_chains.specs.Chains.{places, index_words};
 ghost use Rattle.check_rules.specs.SameWords.{OnlyIfAmong, SameWords};

@@ -22,10 +22,10 @@ use Rattle.sheets.specs.Partners.{member_as_read}
 use Rattle.sheets.specs.Refusals.{number_of}
 use Rattle.sheets.specs.Reading.{union_as_read}
 use Rattle.sheets.specs.Tests.{refuses6}
-use Rattle.sheets.specs.Laws.QuestionRefusals.{refuses5_twice, not5_unrepeated, variables_in_range, query_arity}
-use Rattle.sheets.specs.Laws.UnionRefusals.{not6_iff}
+use Rattle.sheets.proofs.Laws.QuestionRefusals.{refuses5_twice, not5_unrepeated, variables_in_range, query_arity}
+use Rattle.sheets.proofs.Laws.UnionRefusals.{not6_iff}
 use Rattle.sheets.specs.Conditions.{member_question}
-use Rattle.sheets.specs.Laws.ObjectRange.{constants_in_range}
+use Rattle.sheets.proofs.Laws.ObjectRange.{constants_in_range}
 use Rattle.read_union.specs.UnionRows.{UnionRead}
 use Rattle.check_sheet.specs.Members.{Members, MembersRead}
 

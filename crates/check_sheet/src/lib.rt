@@ -1,4 +1,6 @@
 // A union sheet: its members read into a table, and checked against rules and question.
+#![tactic(auto)]
+
 ghost use Rattle.std.specs.Prelude.{◌≡◌, ◌≤◌, length};
 ghost use Rattle.words.specs.Words.{rules_in, query_of, Small, table_words};
 ghost use Rattle.check_sheet.specs.Members.{union_number, MembersRead};

@@ -1,4 +1,6 @@
 // Refusals 8 and 9: the step written beside each later member, and what it yields.
+#![tactic(auto)]
+
 ghost use Rattle.std.specs.Prelude.{◌≡◌, true, not, [], ◌∷◌, ◌≤◌, ◌<◌, length};
 ghost use Rattle.std.proofs.Math.Option.{none};
 ghost use Rattle.theory.specs.Lists.{is_some};
@@ -100,7 +102,7 @@ pub fn refuses8(rules: &[u64], count: usize, table: &[u64], n: usize) -> bool
 }
 
 // What the step beside a member does wrong: it yields nothing, or a question that is not alike to the member.
-#[derive(Drop)]
+#[derive(Clone, Copy)]
 struct Faults {
     fails: bool,
     unlike: bool,

@@ -1,4 +1,6 @@
 // Refusals 7 to 11, in the order of 01's list.
+#![tactic(auto)]
+
 ghost use Rattle.std.specs.Prelude.{◌≡◌, [], ◌∷◌, ◌≤◌, length};
 ghost use Rattle.theory.specs.Refusals.{first_refusal, number_of};
 ghost use Rattle.theory.specs.Syntax.{Query};

@@ -9,17 +9,17 @@ use lib.ListN.{replicate}
 use borrow.Author.Rules.{rules}
 use Rattle.theory.specs.Refusals.{first_refusal, number_of}
 use Rattle.theory.specs.Targets.{places, no_target, HandedBack}
-use Rattle.theory.specs.Laws.Spellings.{spellings}
+use Rattle.theory.proofs.Laws.Spellings.{spellings}
 use Rattle.words.specs.Limits.{sheet_width}
 use Rattle.words.specs.Words.{query_of}
 use Rattle.words.specs.declared.QueryWords.{QueryWords}
 use Rattle.sheets.specs.Partners.{partners01}
 use Rattle.sheets.specs.Reading.{question_as_read}
 use Rattle.sheets.specs.Refusals.{only_question, question_refusals}
-use Rattle.sheets.specs.Laws.OneList.{number_stops, number_goes_on, question_alone_lem}
+use Rattle.sheets.proofs.Laws.OneList.{number_stops, number_goes_on, question_alone_lem}
 use Rattle.promises.specs.TheSheets.{the_question, the_refusal}
 use Rattle.promises.specs.Renaming.{question_alone, flagged, refusal_to_rename, Renamed}
-use Rattle.promises.specs.Laws.RenamePromises.{zero_sound}
+use Rattle.promises.proofs.Laws.RenamePromises.{zero_sound}
 use Rattle.read_question.specs.QuestionWords.{QuestionRead}
 use Rattle.read_question.specs.QuestionLaws.{question_passed, question_small, question_distinct}
 use Rattle.comparing.specs.declared.Handed.{Handed}

@@ -1,4 +1,6 @@
 // 02, T-05, "Alike, and by which names": the entry that compares two questions and hands back the renaming.
+#![tactic(auto)]
+
 ghost use Rattle.std.specs.Prelude.{◌≡◌, replicate};
 ghost use Rattle.theory.specs.Targets.{places, no_target};
 ghost use Rattle.promises.specs.Renaming.{flagged, Renamed};
@@ -10,7 +12,7 @@ use read_records::partners::default_partners;
 
 // What is handed back: 0 or the number of the refusal, 1 where there is a renaming, and where each variable of the first question goes.
 #[repr(C)]
-#[derive(Drop)]
+#[derive(Clone, Copy)]
 pub struct Handed {
     pub number: u32,
     pub found: u32,

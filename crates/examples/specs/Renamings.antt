@@ -5,7 +5,7 @@ use Rattle.std.proofs.Math.Option.{or_else}
 use Rattle.theory.specs.Lists.{pick, all, pairwise, is_some}
 use Rattle.theory.specs.Renaming.{find_renaming}
 use Rattle.theory.specs.Targets.{places, no_target}
-use Rattle.theory.specs.Laws.SmallestFound.{targets_found}
+use Rattle.theory.proofs.Laws.SmallestFound.{targets_found}
 use Rattle.sheets.specs.Partners.{partners01}
 use Rattle.sheets.specs.Reading.{question_as_read}
 use Rattle.sheets.specs.Refusals.{refusal_of, number_of}

@@ -16,8 +16,8 @@ use Rattle.sheets.specs.Refusals.{drawing}
 use Rattle.promises.specs.TheSheets.{the_rules, the_union, the_facts, the_conditions}
 use Rattle.promises.specs.Checking.{SoundAndAccepted}
 use Rattle.promises.specs.Explaining.{four_sheets, the_tuple, Meets19, Meets20, explain_conditions, StepsBehind, Explained}
-use Rattle.promises.specs.Laws.Conditions.{first_both, none_both}
-use Rattle.promises.specs.Laws.ExplainPromises.{twenty_means, always_fits}
+use Rattle.promises.proofs.Laws.Conditions.{first_both, none_both}
+use Rattle.promises.proofs.Laws.ExplainPromises.{twenty_means, always_fits}
 use Rattle.explain_place.specs.Places.{bytes_of_place, places_in}
 use Rattle.explain_place.specs.PlaceLaws.{Bytes, pack_first}
 use Rattle.explain_packed.specs.Packed.{PlacesUsed}

@@ -13,8 +13,8 @@ use Rattle.theory.specs.Laws.Lists.{flat_map_found}
 use Rattle.words.specs.Limits.{place_size}
 use Rattle.sheets.specs.Packing.{bytes_of, pack_records, All, IsByte}
 use Rattle.sheets.specs.StepList.{place_bytes}
-use Rattle.sheets.specs.Laws.PackingBytes.{length_records}
-use Rattle.promises.specs.Laws.AnswerBytes.{length_parts}
+use Rattle.sheets.proofs.Laws.PackingBytes.{length_records}
+use Rattle.promises.proofs.Laws.AnswerBytes.{length_parts}
 
 -- ---- how many
 

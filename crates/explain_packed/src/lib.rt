@@ -1,4 +1,6 @@
 // The packed list that lent places are filled from (02, T-06): as many bytes are lent on as the places would take.
+#![tactic(auto)]
+
 ghost use Rattle.std.specs.Prelude.{◌≡◌, ◌≤◌, length};
 ghost use Rattle.words.specs.Limits.{most_steps};
 ghost use Rattle.explain_packed.specs.Packed.{most_bytes, PlacesUsed, ExplainedIn};

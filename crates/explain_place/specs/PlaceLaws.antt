@@ -15,8 +15,8 @@ use Rattle.theory.specs.Laws.Lists.{flat_map_append}
 use Rattle.words.specs.Limits.{place_size}
 use Rattle.sheets.specs.Bits.{number_at}
 use Rattle.sheets.specs.Packing.{All, IsByte}
-use Rattle.sheets.specs.Laws.Numbers.{all_take}
-use Rattle.sheets.specs.Laws.PackingBytes.{all_at}
+use Rattle.sheets.proofs.Laws.Numbers.{all_take}
+use Rattle.sheets.proofs.Laws.PackingBytes.{all_at}
 use Rattle.explain_place.specs.Places.{bytes_of_place, place_at, no_place, place_in, places_in}
 
 module _ (packed : List ℕ) (n i : ℕ) where

@@ -1,4 +1,6 @@
 // One place of a list of steps (02, T-06): a struct of member, kind, parent, atom and other, with the renaming; and the same in 40 bytes.
+#![tactic(auto)]
+
 ghost use Rattle.std.specs.Prelude.{◌≡◌, ◌++◌, ◌+◌, ◌*◌, ◌≤◌, length, take, drop};
 ghost use Rattle.std.proofs.Math.Seq.{paste};
 ghost use Rattle.words.specs.Limits.{place_size};
@@ -10,7 +12,7 @@ use words::limits::PLACE_BYTES;
 // The number of the member, the step written beside it, and where each variable of the step's result goes, or 32. Laid out as in C, since
 // others lend such places.
 #[repr(C)]
-#[derive(Drop)]
+#[derive(Clone, Copy)]
 pub struct Place {
     pub member: u16,
     pub kind: u8,

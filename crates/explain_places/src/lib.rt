@@ -1,5 +1,7 @@
 // 02, T-06: "fill a lent list of steps": the lent places filled from packed bytes. A slice of structs is what 01 asks for; its proof is a
 // walk of the code by hand. The work for one place is `place_in`.
+#![tactic(auto)]
+
 ghost use Rattle.std.specs.Prelude.{◌≡◌, ◌*◌, ◌≤◌, length};
 ghost use Rattle.words.specs.Limits.{place_size};
 ghost use Rattle.explain_place.specs.Places.{places_in};

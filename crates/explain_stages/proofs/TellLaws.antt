@@ -14,7 +14,8 @@ use Rattle.theory.specs.Syntax.{Rule, Query, Member, UCQ, Fact}
 use Rattle.theory.specs.Chase.{FirstReader}
 use Rattle.theory.specs.Qualified.{roles_of_atoms}
 use Rattle.theory.specs.Laws.Lists.{at_mem}
-use Rattle.theory.specs.Laws.Explaining.{Behind, behind_unique, lowest_unique}
+use Rattle.theory.specs.Laws.Explaining.{Behind}
+use Rattle.theory.proofs.Laws.Explaining.{behind_unique, lowest_unique}
 use Rattle.words.specs.Limits.{sheet_width, most_members}
 use Rattle.words.specs.Words.{query_of, union_in, facts_in}
 use Rattle.words.specs.declared.QueryWords.{QueryWords}

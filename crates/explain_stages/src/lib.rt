@@ -1,4 +1,6 @@
 // Explaining, stage by stage: the question, the union, the facts, the tuple, and then the steps behind it.
+#![tactic(auto)]
+
 ghost use Rattle.std.specs.Prelude.{◌≤◌, length};
 ghost use Rattle.words.specs.FactWords.{ZeroBits};
 ghost use Rattle.words.specs.Limits.{most_rules, most_terms, most_members, most_facts};

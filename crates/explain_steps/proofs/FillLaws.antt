@@ -12,9 +12,10 @@ use Rattle.theory.specs.Syntax.{var, Rule, Step, Member, UCQ, terms}
 use Rattle.theory.specs.Targets.{target_at, no_target, Smallest}
 use Rattle.theory.specs.Explaining.{ExplainedStep, PlaceOf, WayBack}
 use Rattle.theory.specs.Laws.Lists.{at_unique, flat_map_append, get_d_within}
-use Rattle.theory.specs.Laws.Equivalence.{term_into}
-use Rattle.theory.specs.Laws.Targets.{stands_or_not}
-use Rattle.theory.specs.Laws.Explaining.{Behind, way_behind, behind_unique}
+use Rattle.theory.proofs.Laws.Equivalence.{term_into}
+use Rattle.theory.proofs.Laws.Targets.{stands_or_not}
+use Rattle.theory.specs.Laws.Explaining.{Behind}
+use Rattle.theory.proofs.Laws.Explaining.{way_behind, behind_unique}
 use Rattle.words.specs.Limits.{place_size}
 use Rattle.words.specs.Records.{step_of, step_parent}
 use Rattle.words.specs.Words.{rules_in, union_in}

@@ -15,7 +15,7 @@ use Rattle.theory.specs.Union.{yield, Yields}
 use Rattle.theory.specs.Targets.{Smallest, HandedBack}
 use Rattle.theory.specs.Explaining.{PlaceOf}
 use Rattle.theory.specs.Laws.Options.{guard_some}
-use Rattle.theory.specs.Laws.WrittenStep.{yield_iff}
+use Rattle.theory.proofs.Laws.WrittenStep.{yield_iff}
 use Rattle.theory.specs.Laws.Explaining.{Behind}
 use Rattle.words.specs.Records.{step_of, step_kind, step_parent, step_atom, step_other}
 use Rattle.words.specs.Words.{rules_in, union_in, query_of}

@@ -1,4 +1,6 @@
 // The steps from a member back to member 0, by the written parents, each with its renaming (02, T-06).
+#![tactic(auto)]
+
 ghost use Rattle.std.specs.Prelude.{◌≡◌, ◌*◌, ◌≤◌, ◌<◌, length, replicate};
 ghost use Rattle.theory.specs.Explaining.{PlaceOf};
 ghost use Rattle.theory.specs.Laws.Explaining.{Behind};
@@ -18,7 +20,7 @@ use words::steps::{atom_in, kind_in, other_in, parent_in};
 
 // What a call that explains gives beside the list: the number of its refusal, or 0, and how many steps the list has.
 #[repr(C)]
-#[derive(Drop)]
+#[derive(Clone, Copy)]
 pub struct Explanation {
     pub number: u32,
     pub count: u64,

@@ -16,12 +16,12 @@ use Rattle.sheets.specs.Format.{term_count}
 use Rattle.sheets.specs.Partners.{partners01}
 use Rattle.sheets.specs.Reading.{rules_as_written, rules_as_read, question_as_read, union_as_read, facts_as_read}
 use Rattle.sheets.specs.Refusals.{Sheets, rule_refusals, number_of}
-use Rattle.sheets.specs.Laws.QuestionRefusals.{question_arity}
+use Rattle.sheets.proofs.Laws.QuestionRefusals.{question_arity}
 use Rattle.promises.specs.TheSheets.{the_rules, the_question, the_union, the_facts}
 use Rattle.promises.specs.Drawing.{terms_of}
 use Rattle.promises.specs.Explaining.{four_sheets, Explained}
-use Rattle.promises.specs.Laws.Checking.{rules_stop, question_stops, question_passes, drawing_number}
-use Rattle.promises.specs.Laws.ExplainPromises.{pledge}
+use Rattle.promises.proofs.Laws.Checking.{rules_stop, question_stops, question_passes, drawing_number}
+use Rattle.promises.proofs.Laws.ExplainPromises.{pledge}
 use Rattle.promises.specs.Laws.Telling.{TellsBehind}
 use Rattle.read_helpers.specs.InUse.{clashing}
 use Rattle.read_rules.specs.RuleWords.{RulesRead, HelpersRead}

@@ -1,4 +1,6 @@
 // The entry that says which rules put an answer on a list (02, T-06): the steps from the lowest member that yields it back to member 0.
+#![tactic(auto)]
+
 ghost use Rattle.std.specs.Prelude.{length};
 ghost use Rattle.promises.specs.Explaining.{Explained};
 

@@ -1,4 +1,6 @@
 // 02, T-06, in the form that 01 names: "a lent slice of step structs filled by one thin function".
+#![tactic(auto)]
+
 ghost use mathlib.Core.List.{flat_map};
 ghost use Rattle.std.specs.Prelude.{◌*◌, length};
 ghost use Rattle.words.specs.Limits.{place_size};

@@ -1,4 +1,6 @@
 // The library for C and Rust: one export for each entry, with its promise. Each sheet is handed over as pointer and length.
+#![tactic(auto)]
+
 ghost use Rattle.std.specs.Prelude.{length};
 ghost use Rattle.promises.specs.Checking.{Checked};
 ghost use Rattle.promises.specs.Drawing.{Drawn};
@@ -75,7 +77,7 @@ pub extern "C" fn takwishan_explain(
 
 // Where a part of a sheet begins, and how many bytes it has.
 #[repr(C)]
-#[derive(Drop)]
+#[derive(Clone, Copy)]
 pub struct Part {
     pub start: usize,
     pub length: usize,

@@ -1,11 +1,13 @@
 // The sheets from their files.
+#![tactic(auto)]
+
 ghost use Rattle.std.specs.Prelude.{◌≤◌, length};
 ghost use Rattle.program_files.specs.Files.{Reads, Grown, Taken, Rooms, Filled, TwoRooms, TwoFilled};
 
 use libc::ENOENT;
 
 // What came of reading: whether nothing failed, and how many bytes came.
-#[derive(Drop)]
+#[derive(Clone, Copy)]
 pub struct Reading {
     pub whole: bool,
     pub length: usize,
@@ -86,7 +88,7 @@ fn read_next(is_whole: bool, name: &[u8], sheet: &mut [u8]) -> Reading
 }
 
 // How many bytes were read of each file; `whole` says that none of them failed.
-#[derive(Drop)]
+#[derive(Clone, Copy)]
 pub struct Lengths {
     pub whole: bool,
     pub rules: usize,
@@ -120,7 +122,7 @@ pub fn read_files(
 }
 
 // How many bytes were read of the rules and of the question; `whole` says that neither failed.
-#[derive(Drop)]
+#[derive(Clone, Copy)]
 pub struct TwoLengths {
     pub whole: bool,
     pub rules: usize,

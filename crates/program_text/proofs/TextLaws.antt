@@ -8,7 +8,7 @@ use borrow.Author.Rules.{rules}
 use Rattle.promises.specs.Drawing.{Outcome, outcome}
 use Rattle.promises.specs.Report.{report}
 use Rattle.promises.specs.Text.{list_room, text_room, text_for}
-use Rattle.promises.specs.Laws.Printing.{fits, list_long}
+use Rattle.promises.proofs.Laws.Printing.{fits, list_long}
 use Rattle.program_text.specs.Laws.Whole.{whole_files}
 
 -- ---- the question's number of terms

@@ -1,4 +1,6 @@
 // The text that the program prints for four sheets.
+#![tactic(auto)]
+
 ghost use Rattle.std.specs.Prelude.{◌≡◌, ◌/◌, ◌≤◌, length, take, get_or};
 ghost use Rattle.promises.specs.Text.{list_room, text_room, text_for};
 ghost use Rattle.program_files.specs.Files.{Filled, TextOf};

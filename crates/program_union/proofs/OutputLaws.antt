@@ -10,8 +10,8 @@ use borrow.Author.Tests.{eq-eqb, ne_eqb}
 use Rattle.promises.specs.Report.{refused_text, first_line, report}
 use Rattle.promises.specs.Output.{sheet_room, error_line, output_for, error_for}
 use Rattle.promises.specs.Writing.{UnionWritten, write_outcome}
-use Rattle.promises.specs.Laws.Printing.{refused_report}
-use Rattle.promises.specs.Laws.WritePromises.{size_within}
+use Rattle.promises.proofs.Laws.Printing.{refused_report}
+use Rattle.promises.proofs.Laws.WritePromises.{size_within}
 use Rattle.io.specs.Counts.{IsPrefixLen}
 use Rattle.program_union.specs.Laws.TwoFiles.{two_files}
 

@@ -1,4 +1,6 @@
 // What the program `write_union` writes for two sheets: the union's bytes, or the line for a refusal.
+#![tactic(auto)]
+
 ghost use Rattle.std.specs.Prelude.{◌≡◌, ◌≤◌, length, take};
 ghost use Rattle.promises.specs.Output.{sheet_room, error_room, error_line, output_for, error_for};
 ghost use Rattle.program_files.specs.Files.{TwoFilled, OutputOf};
@@ -9,7 +11,7 @@ use report::put_report;
 use writing::write;
 
 // How many bytes go to standard output, and how many to standard error.
-#[derive(Drop)]
+#[derive(Clone, Copy)]
 pub struct OutputLengths {
     pub output: usize,
     pub error: usize,

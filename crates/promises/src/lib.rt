@@ -1,1 +1,2 @@
 // No code: what the calls and the program promise.
+#![tactic(auto)]

@@ -14,10 +14,10 @@ use Rattle.theory.specs.Renaming.{Alike, promising, alike}
 use Rattle.theory.specs.Targets.{places, no_target, HandedBack}
 use Rattle.theory.specs.Laws.Options.{T_and, T_eqb, is_true}
 use Rattle.theory.specs.Laws.Lists.{any_same}
-use Rattle.theory.specs.Laws.Spellings.{spellings}
-use Rattle.theory.specs.Laws.Syntax.{same_term_iff}
-use Rattle.theory.specs.Laws.RenamingDecided.{alike_iff}
-use Rattle.theory.specs.Laws.Targets.{found_alike, none_handed_back}
+use Rattle.theory.proofs.Laws.Spellings.{spellings}
+use Rattle.theory.proofs.Laws.Syntax.{same_term_iff}
+use Rattle.theory.proofs.Laws.RenamingDecided.{alike_iff}
+use Rattle.theory.proofs.Laws.Targets.{found_alike, none_handed_back}
 use Rattle.words.specs.Words.{query_of, Small}
 use Rattle.words.specs.Laws.LowVariables.{atom_low}
 use Rattle.words.specs.declared.QueryWords.{QueryWords}

@@ -1,4 +1,6 @@
 // Whether two queries are alike, and by which names: what is known of two queries before the search for a renaming.
+#![tactic(auto)]
+
 pub mod guess;
 
 ghost use Rattle.std.specs.Prelude.{◌≡◌};

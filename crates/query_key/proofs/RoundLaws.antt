@@ -8,7 +8,7 @@ use Rattle.theory.specs.Lists.{◌∈◌}
 use Rattle.theory.specs.Syntax.{Term, var, const, Atom, Query, terms}
 use Rattle.theory.specs.Laws.Lists.{here}
 use Rattle.theory.specs.Laws.Counting.{total}
-use Rattle.theory.specs.Laws.Syntax.{map_atom_id, terms_answers, terms_atoms}
+use Rattle.theory.proofs.Laws.Syntax.{map_atom_id, terms_answers, terms_atoms}
 use Rattle.words.specs.Words.{query_of, Small}
 use Rattle.words.specs.declared.QueryWords.{QueryWords}
 use Rattle.query_key.specs.Key.{along, mix_answer, mix_atom, given_by, colour_by, next, colours, key_by, key}

@@ -14,9 +14,9 @@ use Rattle.theory.specs.Laws.Options.{is_false, same_test}
 use Rattle.theory.specs.Laws.Lists.{here}
 use Rattle.theory.specs.Laws.Counting.{total}
 use Rattle.theory.specs.Laws.Budget.{Budget, budget_transfer}
-use Rattle.theory.specs.Laws.Syntax.{same_term_iff, terms_atoms, terms_answers}
-use Rattle.theory.specs.Laws.Equivalence.{rename_injective, image_injective}
-use Rattle.theory.specs.Laws.RenamingDecided.{alike_iff}
+use Rattle.theory.proofs.Laws.Syntax.{same_term_iff, terms_atoms, terms_answers}
+use Rattle.theory.proofs.Laws.Equivalence.{rename_injective, image_injective}
+use Rattle.theory.proofs.Laws.RenamingDecided.{alike_iff}
 use Rattle.query_key.specs.Key.{along, mix_answer, mix_atom, given, given_by, colour_by, next, colours, key_by, key}
 
 -- ---- on lists

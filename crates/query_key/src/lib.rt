@@ -1,4 +1,6 @@
 // The key of a query: alike queries share it. Its variables are coloured by two rounds of colour refinement.
+#![tactic(auto)]
+
 ghost use Rattle.std.specs.Prelude.{◌≡◌, ◌+◌, ◌*◌, ◌≤◌, ◌<◌};
 ghost use Rattle.theory.specs.Lists.{pick};
 ghost use Rattle.theory.specs.Syntax.{same_term};

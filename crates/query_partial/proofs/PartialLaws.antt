@@ -12,7 +12,7 @@ use Rattle.theory.specs.Lists.{pick, any, all, pairwise}
 use Rattle.theory.specs.Syntax.{Term, var, const, concept, role, Query, on_atoms}
 use Rattle.theory.specs.Renaming.{promising}
 use Rattle.theory.specs.Laws.Options.{T_and, T_eqb, is_true, same_test}
-use Rattle.theory.specs.Laws.Spellings.{spellings}
+use Rattle.theory.proofs.Laws.Spellings.{spellings}
 use Rattle.words.specs.Records.{atom_of}
 use Rattle.words.specs.Words.{Small, word_term, word_atom, word_kind, word_name, word_first, word_second, LowTerm, LowAtom, first_of, second_of}
 use Rattle.words.specs.Laws.Scans.{queryScans}

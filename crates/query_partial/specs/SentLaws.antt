@@ -8,7 +8,7 @@ use Rattle.theory.specs.Lists.{◌∈◌, pick}
 use Rattle.theory.specs.Syntax.{Term, var, const, Query, terms, rename}
 use Rattle.theory.specs.Renaming.{Alike, promising}
 use Rattle.theory.specs.Laws.Options.{T_or, T_eqb}
-use Rattle.theory.specs.Laws.Promising.{promising_renaming}
+use Rattle.theory.proofs.Laws.Promising.{promising_renaming}
 use Rattle.query_sets.specs.Sets.{holds}
 use Rattle.query_partial.specs.Partial.{entry, may_become, Sends, Apart}
 use Rattle.query_partial.specs.declared.Partial.{Partial}

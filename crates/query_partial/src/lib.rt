@@ -1,4 +1,6 @@
 // Renamings in the making, and the test that nothing speaks against one.
+#![tactic(auto)]
+
 ghost use Rattle.std.specs.Prelude.{◌≡◌, true, ◌<◌, replicate};
 ghost use Rattle.theory.specs.Lists.{any, all, pairwise};
 ghost use Rattle.theory.specs.Syntax.{var, on_atoms};
@@ -12,7 +14,7 @@ use query_sets::{has, with};
 use words::{QueryWords, first_term, kind_of, number_of, second_term};
 
 // Where each variable goes, 32 where it is not assigned, and the set of the targets taken.
-#[derive(Drop)]
+#[derive(Clone, Copy)]
 pub struct Partial {
     pub to: [u8; 32],
     pub taken: u32,

@@ -20,10 +20,10 @@ use Rattle.theory.specs.Syntax.{Term, var, Atom, concept, role, Query, args, ter
 use Rattle.theory.specs.Renaming.{Alike}
 use Rattle.theory.specs.Laws.Options.{T_and, pick_true, same_test}
 use Rattle.theory.specs.Laws.Lists.{here, mem_along, any_decides, any_same, mem_at, mem_drop_at, drop_at, at_equal}
-use Rattle.theory.specs.Laws.Syntax.{same_term_iff, args_map, map_args, terms_atoms}
-use Rattle.theory.specs.Laws.Pigeonhole.{length_drop_at}
-use Rattle.theory.specs.Laws.Equivalence.{inverse, rename_injective}
-use Rattle.theory.specs.Laws.Spellings.{spellings}
+use Rattle.theory.proofs.Laws.Syntax.{same_term_iff, args_map, map_args, terms_atoms}
+use Rattle.theory.proofs.Laws.Pigeonhole.{length_drop_at}
+use Rattle.theory.proofs.Laws.Equivalence.{inverse, rename_injective}
+use Rattle.theory.proofs.Laws.Spellings.{spellings}
 use Rattle.theory.specs.Laws.Scans.{some_from, test_at, some_next, some_past}
 use Rattle.words.specs.Words.{query_of, word_term, word_atom}
 use Rattle.words.specs.Laws.Scans.{some_atom}

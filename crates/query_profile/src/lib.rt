@@ -1,4 +1,6 @@
 // Numbers of variables that a renaming keeps: tests that rule most renamings out before the search tries them.
+#![tactic(auto)]
+
 ghost use Rattle.std.specs.Prelude.{◌≡◌, true, ◌<◌};
 ghost use Rattle.theory.specs.Lists.{◌∈◌};
 ghost use Rattle.theory.specs.Syntax.{var, terms};

@@ -17,10 +17,10 @@ use Rattle.theory.specs.Renaming.{Alike, promising}
 use Rattle.theory.specs.Targets.{places, no_target, target_at, HandedBack}
 use Rattle.theory.specs.Laws.Options.{T_and, T_or, T_no, T_eqb, is_true, is_false}
 use Rattle.theory.specs.Laws.Lists.{any_same}
-use Rattle.theory.specs.Laws.Syntax.{same_term_iff}
-use Rattle.theory.specs.Laws.Equivalence.{term_into}
-use Rattle.theory.specs.Laws.Promising.{renaming_promising}
-use Rattle.theory.specs.Laws.Targets.{precedes_least, none_handed_back}
+use Rattle.theory.proofs.Laws.Syntax.{same_term_iff}
+use Rattle.theory.proofs.Laws.Equivalence.{term_into}
+use Rattle.theory.proofs.Laws.Promising.{renaming_promising}
+use Rattle.theory.proofs.Laws.Targets.{precedes_least, none_handed_back}
 use Rattle.words.specs.Words.{query_of, Small}
 use Rattle.words.specs.declared.QueryWords.{QueryWords}
 use Rattle.words.specs.Laws.LowVariables.{atom_low}

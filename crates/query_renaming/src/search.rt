@@ -14,7 +14,7 @@ use query_variables::used::used;
 use words::QueryWords;
 
 // Two queries with the sets of their variables.
-#[derive(Drop)]
+#[derive(Clone, Copy)]
 pub struct Compared {
     pub p: QueryWords,
     pub q: QueryWords,
@@ -130,7 +130,7 @@ fn viable(s: Compared, v: u32, m: Partial) -> bool
 
 // 02, T-05, "the renaming itself, variable by variable": whether there is one, and where each variable of the first query goes; 32 at
 // every place without a target.
-#[derive(Drop)]
+#[derive(Clone, Copy)]
 pub struct Renaming {
     pub found: bool,
     pub targets: [u8; 32],

@@ -12,7 +12,7 @@ use Rattle.theory.specs.Lists.{◌∈◌, pick, guard, and_then}
 use Rattle.theory.specs.Syntax.{Term, var, concept, role, named, has, has_inverse, Rule, concept_inclusion, role_inclusion, Query, args}
 use Rattle.theory.specs.Syntax.{instance, oriented}
 use Rattle.theory.specs.Rewriting.{unbound, fresh, bearer, rewrite_atom}
-use Rattle.theory.specs.Laws.Spellings.{exchanged, differ_exchanged}
+use Rattle.theory.proofs.Laws.Spellings.{exchanged, differ_exchanged}
 use Rattle.theory.specs.Laws.Options.{and_both}
 use Rattle.words.specs.Records.{rule_kind, left_form, left_name, right_form, right_name, basic_of, rule_in, atom_of}
 use Rattle.words.specs.Words.{query_of, Small, word_term, word_atom, word_kind, word_name, word_first, word_second, LowAtom, first_of, second_of}

@@ -5,7 +5,8 @@ use Rattle.std.proofs.Math.Option.{Option, none, some}
 use Rattle.theory.specs.Lists.{guard}
 use Rattle.theory.specs.Syntax.{Term, var, Atom, concept, role, Basic, named, has, has_inverse, Rule, concept_inclusion, role_inclusion, Query}
 use Rattle.theory.specs.Rewriting.{fresh, rewrite_atom}
-use Rattle.theory.specs.Laws.Rules.{Within, rewrite_image}
+use Rattle.theory.specs.Laws.Rules.{Within}
+use Rattle.theory.proofs.Laws.Rules.{rewrite_image}
 use Rattle.words.specs.Records.{left_form, left_name, right_form, right_name, basic_of}
 use Rattle.words.specs.Words.{query_of, Small, word_atom, LowAtom}
 use Rattle.words.specs.declared.QueryWords.{QueryWords}

@@ -1,4 +1,6 @@
 // What a rule makes of an atom of a query.
+#![tactic(auto)]
+
 ghost use Rattle.std.specs.Prelude.{◌≡◌, true, false, ◌<◌, eqb};
 ghost use Rattle.theory.specs.Lists.{pick, guard};
 ghost use Rattle.theory.specs.Syntax.{var, instance, oriented};
@@ -14,14 +16,14 @@ use words::rules::{left_form, left_name, right_form, right_name, rule_kind};
 use words::{QueryWords, concept_word, first_term, kind_of, number_of, role_word, second_term};
 
 // An atom, if one was found.
-#[derive(Drop)]
+#[derive(Clone, Copy)]
 pub struct AtomFound {
     pub found: bool,
     pub atom: u64,
 }
 
 // A term, if one was found.
-#[derive(Drop)]
+#[derive(Clone, Copy)]
 struct TermFound {
     found: bool,
     term: u64,

@@ -1,4 +1,6 @@
 // Sets of numbers below 32, each a word of 32 bits: a number is in the set where its binary digit is 1.
+#![tactic(auto)]
+
 ghost use Rattle.std.specs.Prelude.{◌≡◌, ◌||◌, ℕ, ◌≤◌, ◌<◌, T, eqb};
 ghost use Rattle.query_sets.specs.Sets.{holds};
 

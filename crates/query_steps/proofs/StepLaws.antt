@@ -18,10 +18,10 @@ use Rattle.theory.specs.Lists.{◌∈◌, At, pick, any, without, once}
 use Rattle.theory.specs.Syntax.{Term, var, const, Rule, Query, args, terms, map_atom, subst_term, same_atom}
 use Rattle.theory.specs.Rewriting.{rewrite_atom, unify, keep_once, substitute, change_atom, rule_step, merge_step}
 use Rattle.theory.specs.Laws.Options.{same_test}
-use Rattle.theory.specs.Laws.Spellings.{same_comm, spellings}
+use Rattle.theory.proofs.Laws.Spellings.{same_comm, spellings}
 use Rattle.theory.specs.Laws.Scans.{first_more, record_at_lem, record_past}
 use Rattle.theory.specs.Laws.Lists.{any_same, once_mem, mem_once}
-use Rattle.theory.specs.Laws.Syntax.{same_atom_iff, terms_atoms, terms_answers, terms_cases, terms_from, keep_once_mem}
+use Rattle.theory.proofs.Laws.Syntax.{same_atom_iff, terms_atoms, terms_answers, terms_cases, terms_from, keep_once_mem}
 use Rattle.words.specs.Records.{rule_in}
 use Rattle.words.specs.Words.{TermWords, query_of, Small, word_term, word_atom, LowAtom}
 use Rattle.words.specs.Limits.{word_term_bound}

@@ -1,2 +1,4 @@
 // Rewriting: what a rule and a merge make of a query in words.
+#![tactic(auto)]
+
 pub mod steps;

@@ -16,7 +16,7 @@ use words::limits::{MOST_ATOMS, MOST_TERMS};
 use words::{QueryWords, same_atom};
 
 // The query that a step leads to, where it applies; else the query before the step.
-#[derive(Drop)]
+#[derive(Clone, Copy)]
 pub struct QueryFound {
     pub found: bool,
     pub query: QueryWords,

@@ -13,7 +13,7 @@ use lib.ListN.{length, get_or, set}
 use lib.Seq.{get_or-set_same, get_or-set_other}
 use borrow.Author.Rules.{rules}
 use borrow.Author.Tests.{eq-eqb, ne_eqb, lt-ltb, le-ltb, le-leb, lt-leb}
-use Rattle.theory.specs.Laws.Spellings.{same_comm, spellings}
+use Rattle.theory.proofs.Laws.Spellings.{same_comm, spellings}
 use Rattle.theory.specs.Lists.{◌∈◌, pick, guard, and_then}
 use Rattle.theory.specs.Syntax.{Term, var, const, concept, role, args, map_atom, subst_term}
 use Rattle.theory.specs.Rewriting.{replace, after, join, bind, unify}

@@ -1,4 +1,6 @@
 // Replacements of variables by terms, and the most general one that makes two atoms equal.
+#![tactic(auto)]
+
 ghost use Rattle.std.specs.Prelude.{◌≡◌, true, ◌&&◌, ◌<◌, eqb};
 ghost use Rattle.theory.specs.Lists.{and_then};
 ghost use Rattle.theory.specs.Syntax.{var, map_atom, subst_term};
@@ -9,7 +11,7 @@ ghost use Rattle.query_substitution.specs.Substitutions.{SmallTerm, SmallTargets
 use words::{concept_word, first_term, kind_of, number_of, role_word, second_term};
 
 // Where each variable goes, the word of a term at its place; and whether the terms that were to be made equal could be.
-#[derive(Drop)]
+#[derive(Clone, Copy)]
 pub struct Substitution {
     pub to: [u64; 32],
     pub unified: bool,

@@ -10,7 +10,7 @@ use borrow.Author.Rules.{rules}
 use Rattle.theory.specs.Lists.{pick, any, count}
 use Rattle.theory.specs.Syntax.{Term, Query, args, places, same_term}
 use Rattle.theory.specs.Rewriting.{unbound}
-use Rattle.theory.specs.Laws.Spellings.{spellings}
+use Rattle.theory.proofs.Laws.Spellings.{spellings}
 use Rattle.words.specs.Records.{term_of}
 use Rattle.words.specs.Words.{word_term, word_atom, word_kind, word_first, word_second, first_of, second_of}
 use Rattle.words.specs.Laws.Scans.{queryScans}

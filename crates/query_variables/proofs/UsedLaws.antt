@@ -10,7 +10,7 @@ use borrow.Author.Rules.{rules}
 use Rattle.theory.specs.Lists.{any}
 use Rattle.theory.specs.Syntax.{Term, var, Atom, args, places, terms, same_term}
 use Rattle.theory.specs.Laws.Lists.{any_append}
-use Rattle.theory.specs.Laws.Spellings.{spellings}
+use Rattle.theory.proofs.Laws.Spellings.{spellings}
 use Rattle.theory.specs.Laws.Scans.{first_more}
 use Rattle.words.specs.Words.{query_of, word_term, word_atom, word_kind, word_first, word_second, LowTerm, first_of, second_of}
 use Rattle.words.specs.Words.{second_of}

@@ -3,7 +3,7 @@ use Rattle.std.specs.Prelude.{◌<◌, length}
 use Rattle.std.proofs.Common.{arith, length-take}
 use Rattle.std.proofs.lemmas.List.{length-map}
 use Rattle.theory.specs.Rewriting.{fresh}
-use Rattle.theory.specs.Laws.Pigeonhole.{fresh_small, terms_few}
+use Rattle.theory.proofs.Laws.Pigeonhole.{fresh_small, terms_few}
 use Rattle.words.specs.Words.{query_of, Small}
 use Rattle.words.specs.declared.QueryWords.{QueryWords}
 

@@ -26,8 +26,9 @@ use Rattle.sheets.specs.Partners.{is_higher, lower, atom_as_read}
 use Rattle.sheets.specs.Reading.{facts_as_read}
 use Rattle.sheets.specs.Refusals.{fact_refusals, number_of}
 use Rattle.sheets.specs.Tests.{fact_sound, refuses12, refuses13}
-use Rattle.sheets.specs.Laws.RecordLoops.{Nth, left, rowLaws, row_length, test_begins, test_ends, test_passed, test_failed, fill_begins}
-use Rattle.sheets.specs.Laws.RecordLoops.{fill_goes_on, fill_ends, no_multiple, too_long, unsound_record, no_refusal}
+use Rattle.sheets.specs.Laws.RecordLoops.{Nth, left}
+use Rattle.sheets.proofs.Laws.RecordLoops.{rowLaws, row_length, test_begins, test_ends, test_passed, test_failed, fill_begins}
+use Rattle.sheets.proofs.Laws.RecordLoops.{fill_goes_on, fill_ends, no_multiple, too_long, unsound_record, no_refusal}
 use Rattle.read_records.specs.ReadIntoLaws.{sheet_refused, sheet_read}
 use Rattle.read_facts.specs.FactSheets.{FactsRead, HoldsFacts, Widened, HasFields}
 

@@ -1,4 +1,6 @@
 // Facts: which records are sound, a fact as read in a word, and a sheet's facts read into a table.
+#![tactic(auto)]
+
 ghost use Rattle.std.specs.Prelude.{◌≡◌, true, ◌/◌, ◌≤◌, ◌<◌, length};
 ghost use Rattle.theory.specs.Lists.{all};
 ghost use Rattle.words.specs.FactWords.{FactWord};

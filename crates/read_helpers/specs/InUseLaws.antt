@@ -14,15 +14,16 @@ use Rattle.theory.specs.Qualified.{WrittenRule, plain, first_helper, rules_read,
 use Rattle.theory.specs.Qualified.{refuses18}
 use Rattle.theory.specs.Laws.Options.{T_and, T_eqb, same_test}
 use Rattle.theory.specs.Laws.Lists.{any_same}
-use Rattle.theory.specs.Laws.QualifiedPlaces.{helper_iff, helpers_few}
+use Rattle.theory.proofs.Laws.QualifiedPlaces.{helper_iff, helpers_few}
 use Rattle.words.specs.Limits.{name_bound}
 use Rattle.words.specs.Records.{left_form, left_name, right_form, right_name, is_rule, kind3_forms, basic_of, rule_in, qualified_in}
 use Rattle.sheets.specs.Format.{rule_records, written_in, written_of}
 use Rattle.sheets.specs.Partners.{is_higher, lower, basic_as_read, rule_as_read, written_as_read}
 use Rattle.sheets.specs.Reading.{rules_as_written}
 use Rattle.sheets.specs.Tests.{passes2, pairs_sound}
-use Rattle.sheets.specs.Laws.Tests.{ltb_tells}
-use Rattle.sheets.specs.Laws.RuleSheets.{Pair, rule_kind_lem, written_rule, written_pair, by_rules_lem}
+use Rattle.sheets.proofs.Laws.Tests.{ltb_tells}
+use Rattle.sheets.specs.Laws.RuleSheets.{Pair}
+use Rattle.sheets.proofs.Laws.RuleSheets.{rule_kind_lem, written_rule, written_pair, by_rules_lem}
 use Rattle.read_helpers.specs.InUse.{is_helper, clashing, record_roles}
 
 -- ---- one role

@@ -1,5 +1,7 @@
 // Helper roles (02, T-04): whether one that is in use stands as a role in the rules as written, in the question or in a fact, which is 18.
 // So many are in use, the numbers from 4,095 down.
+#![tactic(auto)]
+
 ghost use Rattle.std.specs.Prelude.{◌≡◌, ◌≤◌, ◌<◌, true, false, ◌||◌, map, length, take};
 ghost use Rattle.theory.specs.Lists.{all};
 ghost use Rattle.theory.specs.Qualified.{roles_of_basic, roles_of_rules, roles_of_atom, roles_of_atoms};

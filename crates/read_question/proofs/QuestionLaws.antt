@@ -16,7 +16,8 @@ use Rattle.words.specs.Words.{query_of, TermWords, word_term, word_atom}
 use Rattle.sheets.specs.Format.{term_count, atom_count, answer_records, atom_records, query_at}
 use Rattle.sheets.specs.Partners.{atom_as_read, query_as_read}
 use Rattle.sheets.specs.Tests.{term_sound, answer_sound, atom_sound, question_sound}
-use Rattle.sheets.specs.Laws.RecordLoops.{Nth, left, rowLaws, each_passes, fill_ends}
+use Rattle.sheets.specs.Laws.RecordLoops.{Nth, left}
+use Rattle.sheets.proofs.Laws.RecordLoops.{rowLaws, each_passes, fill_ends}
 use Rattle.read_question.specs.QuestionWords.{answers_from, atoms_from}
 
 -- ---- a sound question

@@ -12,7 +12,7 @@ use Rattle.theory.specs.Lists.{any, numbers}
 use Rattle.theory.specs.Refusals.{first_refusal}
 use Rattle.theory.specs.Syntax.{Term, Atom, args, places, same_term, same_atom}
 use Rattle.theory.specs.Laws.Lists.{any_map}
-use Rattle.theory.specs.Laws.Spellings.{same_atom_exchanged}
+use Rattle.theory.proofs.Laws.Spellings.{same_atom_exchanged}
 use Rattle.theory.specs.Laws.Scans.{some_from, all_from, test_at, scans, rest_cons, rest_nil, all_left, some_next, some_past}
 use Rattle.theory.specs.Laws.Scans.{records_listed, some_record, all_records}
 use Rattle.words.specs.Laws.LowVariables.{word_below}

@@ -11,9 +11,9 @@ use Rattle.words.specs.Words.{query_of, Small}
 use Rattle.words.specs.declared.QueryWords.{QueryWords}
 use Rattle.sheets.specs.Reading.{question_as_read}
 use Rattle.sheets.specs.Refusals.{question_refusals}
-use Rattle.sheets.specs.Laws.QuestionRefusals.{not3_iff, not5_unrepeated, variables_in_range}
-use Rattle.sheets.specs.Laws.OneList.{first_positive}
-use Rattle.sheets.specs.Laws.StepsInRange.{question_unrefused}
+use Rattle.sheets.proofs.Laws.QuestionRefusals.{not3_iff, not5_unrepeated, variables_in_range}
+use Rattle.sheets.proofs.Laws.OneList.{first_positive}
+use Rattle.sheets.proofs.Laws.StepsInRange.{question_unrefused}
 use Rattle.read_question.specs.QuestionWords.{QuestionRead}
 
 module _ (p s : List ℕ) (q : QueryWords) (number : ℕ) (asked : QuestionRead p s number q) (zero : number ≡ 0) where

@@ -1,4 +1,6 @@
 // A question read into a struct, with its refusals.
+#![tactic(auto)]
+
 ghost use Rattle.std.specs.Prelude.{◌≡◌, true, ◌&&◌, map, ◌+◌, ◌*◌, ◌≤◌, ◌<◌, length, take};
 ghost use Rattle.theory.specs.Lists.{any, all};
 ghost use Rattle.theory.specs.Syntax.{places, same_term, same_atom};
@@ -229,7 +231,7 @@ pub fn repeated_atom(q: QueryWords) -> bool
 }
 
 // What reading a question gives: the number of its refusal, 0 for none, and the question.
-#[derive(Drop)]
+#[derive(Clone, Copy)]
 pub struct QueryRead {
     pub number: u32,
     pub query: QueryWords,

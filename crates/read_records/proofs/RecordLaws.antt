@@ -13,7 +13,7 @@ use Rattle.theory.specs.Syntax.{concept, role}
 use Rattle.words.specs.Records.{term_of, atom_kind, atom_zero, atom_name, atom_first, atom_second, atom_of}
 use Rattle.words.specs.Limits.{sheet_width, object_bound, variable_bound, sheet_term_bound, word_object_bound}
 use Rattle.words.specs.Words.{word_term, word_atom}
-use Rattle.sheets.specs.Laws.Tests.{eqb_comm}
+use Rattle.sheets.proofs.Laws.Tests.{eqb_comm}
 use Rattle.sheets.specs.Partners.{is_higher, lower, atom_as_read}
 use Rattle.sheets.specs.Tests.{term_sound, answer_sound, atom_sound}
 

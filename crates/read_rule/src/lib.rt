@@ -1,4 +1,6 @@
 // One rule: which records are rules, with kinds and forms as named, and a rule as read.
+#![tactic(auto)]
+
 pub mod pair;
 
 ghost use Rattle.std.specs.Prelude.{◌≡◌, ◌<◌, true, not, ◌&&◌, ◌||◌, eqb, ltb};

@@ -14,7 +14,7 @@ use Rattle.theory.specs.Lists.{all}
 use Rattle.theory.specs.Syntax.{Rule}
 use Rattle.theory.specs.Qualified.{WrittenRule, read_as, placed_from, first_helper, rules_read}
 use Rattle.theory.specs.Laws.Options.{T_and, is_true}
-use Rattle.theory.specs.Laws.QualifiedPlaces.{rules_from}
+use Rattle.theory.proofs.Laws.QualifiedPlaces.{rules_from}
 use Rattle.words.specs.Limits.{sheet_width, name_bound, rule_bytes, most_rules}
 use Rattle.words.specs.Records.{rule_kind, is_rule, kind3_forms, rule_in, qualified_in}
 use Rattle.words.specs.Words.{rules_in}
@@ -22,9 +22,10 @@ use Rattle.sheets.specs.Format.{rule_records, written_in, written_of}
 use Rattle.sheets.specs.Partners.{rule_as_read, written_as_read}
 use Rattle.sheets.specs.Reading.{rules_as_written, rules_as_read}
 use Rattle.sheets.specs.Tests.{passes2, pairs_sound}
-use Rattle.sheets.specs.Laws.Tests.{lt_or_le}
-use Rattle.sheets.specs.Laws.RecordLoops.{Nth, left_all, left_next, left_none, rowLaws}
-use Rattle.sheets.specs.Laws.RuleSheets.{written_rule, written_pair, sound_three, sound_four, sound_other}
+use Rattle.sheets.proofs.Laws.Tests.{lt_or_le}
+use Rattle.sheets.specs.Laws.RecordLoops.{Nth}
+use Rattle.sheets.proofs.Laws.RecordLoops.{left_all, left_next, left_none, rowLaws}
+use Rattle.sheets.proofs.Laws.RuleSheets.{written_rule, written_pair, sound_three, sound_four, sound_other}
 use Rattle.read_rule.specs.PairPut.{PairPut}
 use Rattle.read_rules.specs.Filling.{FewRules, rest, rules_of_rest, FillingRules}
 

@@ -17,8 +17,8 @@ use Rattle.sheets.specs.Format.{rule_records, pairs_in}
 use Rattle.sheets.specs.Refusals.{rule_refusals, number_of}
 use Rattle.sheets.specs.Reading.{rules_as_written, rules_as_read}
 use Rattle.sheets.specs.Tests.{refuses1, passes2, refuses2, pairs_sound, refuses17}
-use Rattle.sheets.specs.Laws.RecordLoops.{row_length, rowLaws}
-use Rattle.sheets.specs.Laws.RuleSheets.{rules_counted as as_many_rules, helpers_counted}
+use Rattle.sheets.proofs.Laws.RecordLoops.{row_length, rowLaws}
+use Rattle.sheets.proofs.Laws.RuleSheets.{rules_counted as as_many_rules, helpers_counted}
 use Rattle.theory.specs.Qualified.{helpers_of, roles_of_rules}
 use Rattle.read_helpers.specs.InUse.{clashing}
 use Rattle.read_helpers.specs.InUseLaws.{clash_is}

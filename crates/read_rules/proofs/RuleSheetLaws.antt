@@ -14,7 +14,8 @@ use Rattle.words.specs.Records.{rule_kind}
 use Rattle.sheets.specs.Format.{rule_records, pairs_in}
 use Rattle.sheets.specs.Tests.{follows, pairs_sound}
 use Rattle.read_rules.specs.Filling.{rest}
-use Rattle.sheets.specs.Laws.RecordLoops.{Nth, left_all, left_next, left_none, rowLaws}
+use Rattle.sheets.specs.Laws.RecordLoops.{Nth}
+use Rattle.sheets.proofs.Laws.RecordLoops.{left_all, left_next, left_none, rowLaws}
 
 pub ruleset allLaws = (rules, rowLaws)
 

@@ -1,4 +1,6 @@
 // A rule sheet: its records judged, and its rules as read in a table.
+#![tactic(auto)]
+
 ghost use Rattle.std.specs.Prelude.{◌≡◌, ◌+◌, ◌-◌, ◌/◌, ◌<◌, ◌≤◌, true, false, length, eqb};
 ghost use Rattle.theory.specs.Lists.{pick, all};
 ghost use Rattle.words.specs.Limits.{sheet_width, most_rules, rule_bytes, most_rule_bytes};
@@ -20,7 +22,7 @@ use words::rules::rule_kind;
 
 // What reading a rule sheet gives: the number of its refusal, 0 for none; how many rules it is read as, and how many helpers they use,
 // both 0 on a refusal; and whether a helper in use stands in a rule as written, for which the list has a later place.
-#[derive(Drop)]
+#[derive(Clone, Copy)]
 pub struct RuleSheet {
     pub number: u32,
     pub count: usize,

@@ -16,7 +16,7 @@ use Rattle.words.specs.Limits.{sheet_width, step_bytes, most_union_bytes}
 use Rattle.sheets.specs.Format.{question_length, term_count, member_count, member_start, first_question}
 use Rattle.sheets.specs.Showing.{has_member, member_part, part_start, Placed}
 use Rattle.sheets.specs.Tests.{refuses6}
-use Rattle.sheets.specs.Laws.UnionLengths.{first_begins, accepted, at_least, at_most, refused}
+use Rattle.sheets.proofs.Laws.UnionLengths.{first_begins, accepted, at_least, at_most, refused}
 use Rattle.read_walk.specs.Ends.{member_end}
 use Rattle.read_walk.specs.EndLaws.{end_begins, end_within, start_within}
 

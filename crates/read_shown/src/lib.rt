@@ -1,4 +1,6 @@
 // The part of a union sheet that holds a member's question.
+#![tactic(auto)]
+
 ghost use Rattle.std.specs.Prelude.{◌≡◌, ◌≤◌, length};
 ghost use Rattle.words.specs.Limits.{sheet_width, most_union_bytes};
 ghost use Rattle.sheets.specs.Format.{member_start};
@@ -38,7 +40,7 @@ fn has_member(s: &[u8], m: usize, partners: &[u16]) -> bool
 }
 
 // The place of a part of a sheet: its first byte, 0 for an empty part, and its length.
-#[derive(Drop)]
+#[derive(Clone, Copy)]
 pub struct Place {
     pub start: usize,
     pub length: usize,

@@ -23,11 +23,11 @@ use Rattle.words.specs.Rows.{NarrowRow, NarrowRows, RowOf}
 use Rattle.words.specs.Laws.NewRows.{pasted_there, pasted_kept}
 use Rattle.sheets.specs.Bits.{number_at}
 use Rattle.sheets.specs.Format.{query_at, member_count, member_start, question_start, member_at, union_of}
-use Rattle.sheets.specs.Laws.QuestionRefusals.{question_sound_tells}
+use Rattle.sheets.proofs.Laws.QuestionRefusals.{question_sound_tells}
 use Rattle.sheets.specs.Partners.{query_as_read, member_as_read}
 use Rattle.sheets.specs.Reading.{union_as_read}
 use Rattle.sheets.specs.Tests.{question_sound, refuses6}
-use Rattle.sheets.specs.Laws.UnionLengths.{first_begins, accepted, at_least, at_most}
+use Rattle.sheets.proofs.Laws.UnionLengths.{first_begins, accepted, at_least, at_most}
 use Rattle.read_records.specs.ReadIntoLaws.{sheet_refused, sheet_read}
 use Rattle.read_question.specs.QuestionWords.{ReadFrom}
 use Rattle.read_walk.specs.Ends.{member_end}

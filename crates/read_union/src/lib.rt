@@ -1,4 +1,6 @@
 // A union read into a table of 16 words a member.
+#![tactic(auto)]
+
 ghost use Rattle.std.specs.Prelude.{◌≡◌, map, ◌≤◌, length};
 ghost use Rattle.theory.specs.Lists.{numbers};
 ghost use Rattle.words.specs.Limits.{sheet_width, most_members, most_union_bytes};

@@ -17,9 +17,9 @@ use Rattle.words.specs.Words.{query_of}
 use Rattle.words.specs.declared.QueryWords.{QueryWords}
 use Rattle.words.specs.Limits.{sheet_width, most_members, step_bytes}
 use Rattle.sheets.specs.Format.{term_count, query_at, member_count, member_start}
-use Rattle.sheets.specs.Laws.Tests.{eqb_comm}
-use Rattle.sheets.specs.Laws.UnionRefusals.{start_rises}
-use Rattle.sheets.specs.Laws.UnionLengths.{first_begins, next_start, accepted, refused, too_short, too_long}
+use Rattle.sheets.proofs.Laws.Tests.{eqb_comm}
+use Rattle.sheets.proofs.Laws.UnionRefusals.{start_rises}
+use Rattle.sheets.proofs.Laws.UnionLengths.{first_begins, next_start, accepted, refused, too_short, too_long}
 use Rattle.sheets.specs.Partners.{query_as_read}
 use Rattle.sheets.specs.Tests.{question_sound, refuses4, refuses5, member_sound_at, member_sound, refuses6}
 use Rattle.read_walk.specs.Ends.{member_end, whole_and_sound, end_if_sound}

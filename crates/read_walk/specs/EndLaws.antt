@@ -3,8 +3,8 @@ use Rattle.std.specs.Prelude.{◌≡◌, ℕ, suc, ◌+◌, ◌≤◌, ◌<◌, 
 use Rattle.std.proofs.Common.{ap, ◌∙◌, add-one, arith}
 use Rattle.words.specs.Limits.{sheet_width}
 use Rattle.sheets.specs.Format.{member_start}
-use Rattle.sheets.specs.Laws.UnionRefusals.{start_rises}
-use Rattle.sheets.specs.Laws.UnionLengths.{next_start}
+use Rattle.sheets.proofs.Laws.UnionRefusals.{start_rises}
+use Rattle.sheets.proofs.Laws.UnionLengths.{next_start}
 use Rattle.read_walk.specs.Ends.{member_end}
 
 module _ (s : List ℕ) (at j count : ℕ) (begins : at ≡ member_start sheet_width s j) where

@@ -1,4 +1,6 @@
 // The walk over a union sheet, member after member: where each ends, and whether it is sound. Refusal 6.
+#![tactic(auto)]
+
 ghost use Rattle.std.specs.Prelude.{◌≡◌, not, ◌&&◌, ◌+◌, ◌≤◌, eqb, length};
 ghost use Rattle.theory.specs.Lists.{all, numbers};
 ghost use Rattle.words.specs.Limits.{sheet_width, count_bytes, step_bytes, most_union_bytes};

@@ -17,7 +17,7 @@ use mir.Val.{Fits}
 use Rattle.words.specs.Limits.{object_bound}
 use Rattle.promises.specs.Report.{newline, space, refused_text, accepted_text, decimal_of, separator, object_at, objects_at, line, lines_at}
 use Rattle.promises.specs.Report.{first_line, report}
-use Rattle.promises.specs.Laws.Printing.{refused_report, listed_report}
+use Rattle.promises.proofs.Laws.Printing.{refused_report, listed_report}
 use Rattle.report.specs.Put.{Put}
 use Rattle.report.specs.Laws.Decimal.{fewest_decimal, short_decimal}
 use Rattle.io.specs.Counts.{IsPrefixLen}

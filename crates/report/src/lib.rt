@@ -1,4 +1,6 @@
 // The text of an outcome, as the program prints it (01, "The program and its cards").
+#![tactic(auto)]
+
 ghost use Rattle.std.specs.Prelude.{◌≡◌, ◌+◌, ◌*◌, ◌≤◌, ◌<◌, cond, ◌∷◌, [], ◌++◌, length, take};
 ghost use Rattle.promises.specs.Report.{decimal_of, object_at, objects_at, line, lines_at, first_line, newline, space, report as report_of};
 ghost use Rattle.report.specs.Put.{Put};

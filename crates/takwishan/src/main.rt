@@ -1,4 +1,6 @@
 // The program: reads the four sheets from the folder that it is run in, and prints the answers (01, "The program and its cards").
+#![tactic(auto)]
+
 ghost use Rattle.program_files.specs.Files.{Printable};
 
 use libc::STDOUT_FILENO;

@@ -1,4 +1,6 @@
 // Words: a query in a struct, and terms and atoms as numbers.
+#![tactic(auto)]
+
 pub mod facts;
 pub mod limits;
 pub mod lost_tags;
@@ -15,7 +17,7 @@ ghost use Rattle.words.specs.Words.{word_term, word_atom, word_kind, word_name, 
 use limits::{MOST_ATOMS, MOST_TERMS};
 
 // A query: its answer terms, of 25 bits each, and its atoms, of 64.
-#[derive(Drop)]
+#[derive(Clone, Copy)]
 pub struct QueryWords {
     pub terms: usize,
     pub answers: [u64; MOST_TERMS],

@@ -17,8 +17,9 @@ use Rattle.theory.specs.Rewriting.{rule_step, merge_step}
 use Rattle.theory.specs.Writing.{stepped, by_rule, by_merge, appended_all}
 use Rattle.theory.specs.Laws.Lists.{any_iff, numbers_iff}
 use Rattle.theory.specs.Laws.Scans.{rest_cons, rest_nil, all_left}
-use Rattle.theory.specs.Laws.WritingGrows.{extends_length, AlikeIn, alike_extends, appended_alike, appended_all_append}
-use Rattle.theory.specs.Laws.WritingGrows.{appended_all_extends, appended_all_covers, found_stepped}
+use Rattle.theory.specs.Laws.WritingGrows.{AlikeIn}
+use Rattle.theory.proofs.Laws.WritingGrows.{extends_length, alike_extends, appended_alike, appended_all_append}
+use Rattle.theory.proofs.Laws.WritingGrows.{appended_all_extends, appended_all_covers, found_stepped}
 use Rattle.words.specs.Limits.{most_members}
 use Rattle.words.specs.Records.{rule_in, step_of}
 use Rattle.words.specs.Words.{query_of, Small, rules_in, union_in, word_atom}

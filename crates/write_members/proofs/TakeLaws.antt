@@ -12,8 +12,8 @@ use Rattle.theory.specs.Lists.{Unrepeated, numbers}
 use Rattle.theory.specs.Syntax.{Rule, Query, Member, UCQ}
 use Rattle.theory.specs.Writing.{by_rule, by_merge, steps_from, appended_all, with_steps_of, grown, written_union}
 use Rattle.theory.specs.Laws.Scans.{records_length}
-use Rattle.theory.specs.Laws.WritingGrows.{extends_length, appended_all_append}
-use Rattle.theory.specs.Laws.WritingGrows.{appended_all_extends, grown_extends, grown_same}
+use Rattle.theory.proofs.Laws.WritingGrows.{extends_length, appended_all_append}
+use Rattle.theory.proofs.Laws.WritingGrows.{appended_all_extends, grown_extends, grown_same}
 use Rattle.words.specs.Limits.{most_members, most_atoms}
 use Rattle.words.specs.Records.{step_of}
 use Rattle.words.specs.Words.{query_of, Small, rules_in, union_in, word_atom, stride, table_words}

@@ -1,4 +1,6 @@
 // 02, T-02, "Our own unions": the members of the union that the register writes, found from rules and question into a table.
+#![tactic(auto)]
+
 ghost use Rattle.std.specs.Prelude.{◌≡◌, true, ◌≤◌, ◌<◌, length};
 ghost use mathlib.Core.List.{[], ◌∷◌, ◌++◌, flat_map};
 ghost use Rattle.std.proofs.Math.Option.{some};

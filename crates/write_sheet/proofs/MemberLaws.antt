@@ -16,10 +16,10 @@ use Rattle.words.specs.declared.QueryWords.{QueryWords}
 use Rattle.words.specs.Rows.{member_in}
 use Rattle.words.specs.Laws.Rows.{rows, next_member, no_member}
 use Rattle.sheets.specs.Packing.{bytes_of, step_number, pack_query, pack_member}
-use Rattle.sheets.specs.Laws.PackingBytes.{get_d_drop, length_bytes_of}
-use Rattle.sheets.specs.Laws.PackingNumbers.{step_code}
-use Rattle.sheets.specs.Laws.PackingSheets.{whole_sheet}
-use Rattle.sheets.specs.Laws.PackingUnions.{length_member}
+use Rattle.sheets.proofs.Laws.PackingBytes.{get_d_drop, length_bytes_of}
+use Rattle.sheets.proofs.Laws.PackingNumbers.{step_code}
+use Rattle.sheets.proofs.Laws.PackingSheets.{whole_sheet}
+use Rattle.sheets.proofs.Laws.PackingUnions.{length_member}
 use Rattle.write_sheet.specs.PutAt.{put_at, members_bytes}
 use Rattle.write_sheet.proofs.PutLaws.{Remaining, put_length, put_then, remaining_next, remaining_done, remaining_same}
 use Rattle.write_sheet.proofs.NumberLaws.{number_long}

@@ -14,7 +14,7 @@ use Rattle.words.specs.Limits.{sheet_width, word_width, object_bound, word_objec
 use Rattle.words.specs.Records.{term_of, atom_of}
 use Rattle.words.specs.Words.{word_term, word_atom, word_kind, word_name, word_first, word_second}
 use Rattle.sheets.specs.Packing.{bytes_of, bits_after, fields_number, term_number, atom_number}
-use Rattle.sheets.specs.Laws.PackingBytes.{length_bytes_of}
+use Rattle.sheets.proofs.Laws.PackingBytes.{length_bytes_of}
 use Rattle.write_sheet.specs.PutAt.{put_at, answer_record, atom_record}
 use Rattle.write_sheet.proofs.PutLaws.{put_nil, put_length, put_set}
 

@@ -14,9 +14,9 @@ use Rattle.words.specs.Records.{term_of, atom_of}
 use Rattle.words.specs.Words.{query_of, Small, word_term, word_atom}
 use Rattle.words.specs.declared.QueryWords.{QueryWords}
 use Rattle.sheets.specs.Packing.{bytes_of, pack_records, fields_number, term_number, atom_number, pack_query}
-use Rattle.sheets.specs.Laws.PackingBytes.{length_bytes_of, length_records}
-use Rattle.sheets.specs.Laws.PackingQueries.{length_question}
-use Rattle.sheets.specs.Laws.PackingSheets.{whole_sheet}
+use Rattle.sheets.proofs.Laws.PackingBytes.{length_bytes_of, length_records}
+use Rattle.sheets.proofs.Laws.PackingQueries.{length_question}
+use Rattle.sheets.proofs.Laws.PackingSheets.{whole_sheet}
 use Rattle.write_sheet.specs.PutAt.{put_at, answer_record, atom_record, answers_bytes, atoms_bytes}
 use Rattle.write_sheet.proofs.PutLaws.{Remaining, put_length, put_then, remaining_next, remaining_done, remaining_same}
 use Rattle.write_sheet.proofs.NumberLaws.{number_long}

@@ -14,7 +14,7 @@ use Rattle.words.specs.declared.QueryWords.{QueryWords}
 use Rattle.words.specs.Rows.{member_in}
 use Rattle.words.specs.Laws.Rows.{rows}
 use Rattle.sheets.specs.Packing.{bytes_of, pack_query, pack_union, union_sheet}
-use Rattle.sheets.specs.Laws.PackingBytes.{length_bytes_of, length_number}
+use Rattle.sheets.proofs.Laws.PackingBytes.{length_bytes_of, length_number}
 use Rattle.write_sheet.specs.PutAt.{put_at, members_bytes}
 use Rattle.write_sheet.proofs.PutLaws.{put_length, put_before, put_then}
 use Rattle.write_sheet.proofs.NumberLaws.{number_long}

@@ -1,4 +1,6 @@
 // A union in a table of members, written to a lent sheet: its packed bytes, and zeros after them.
+#![tactic(auto)]
+
 pub mod numbers;
 pub mod questions;
 

@@ -1,4 +1,6 @@
 // Writing once rules and question are read: the union put on the lent sheet, or 15, and else 16; a refusal, with zeros in the whole sheet.
+#![tactic(auto)]
+
 ghost use Rattle.std.specs.Prelude.{◌≡◌, ◌≤◌, length, replicate};
 ghost use Rattle.theory.specs.Lists.{Unrepeated};
 ghost use Rattle.theory.specs.Writing.{written_union};
@@ -14,7 +16,7 @@ use write_sheet::{put_union, union_length};
 
 // What a call that writes a union gives beside the sheet: the number of its refusal, or 0, how many members there are, and how many bytes.
 #[repr(C)]
-#[derive(Drop)]
+#[derive(Clone, Copy)]
 pub struct Written {
     pub number: u32,
     pub count: u64,

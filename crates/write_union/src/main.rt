@@ -1,5 +1,7 @@
 // The program that writes a union (02, T-02): reads rules and question from the folder that it is run in, and hands the union's bytes to
 // standard output. On a refusal nothing goes there, and `refused N` goes to standard error.
+#![tactic(auto)]
+
 ghost use Rattle.program_files.specs.Files.{Output, ErrorLine};
 
 use libc::{STDERR_FILENO, STDOUT_FILENO};

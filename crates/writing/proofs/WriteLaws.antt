@@ -19,10 +19,10 @@ use Rattle.words.specs.declared.QueryWords.{QueryWords}
 use Rattle.sheets.specs.Partners.{partners01}
 use Rattle.sheets.specs.Reading.{rules_as_written, rules_as_read, question_as_read}
 use Rattle.sheets.specs.Refusals.{number_of, writing, rule_refusals, question_refusals}
-use Rattle.sheets.specs.Laws.OneList.{first_positive, clash_refusals, writing_first}
+use Rattle.sheets.proofs.Laws.OneList.{first_positive, clash_refusals, writing_first}
 use Rattle.promises.specs.TheSheets.{the_question, the_refusal}
 use Rattle.promises.specs.Writing.{write_outcome_by, two_sheets, the_written, union_bytes, refusal_to_write, write_outcome, UnionWritten}
-use Rattle.promises.specs.Laws.WritePromises.{pledge}
+use Rattle.promises.proofs.Laws.WritePromises.{pledge}
 use Rattle.read_helpers.specs.InUse.{clashing}
 use Rattle.read_rules.specs.RuleWords.{RulesRead, HelpersRead}
 use Rattle.read_rules.specs.RuleLaws.{rules_few, rules_within, helpers_within, clash_with, clash_of_rules}

@@ -1,4 +1,6 @@
 // 02, T-02, "Our own unions": the entry that writes a union for rules and a question into a lent sheet.
+#![tactic(auto)]
+
 ghost use Rattle.std.specs.Prelude.{length};
 ghost use Rattle.promises.specs.Writing.{UnionWritten};
 

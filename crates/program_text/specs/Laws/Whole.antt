@@ -4,7 +4,8 @@ use Rattle.std.proofs.Common.{ap, ap₂, ◌∙◌, arith, get_or-take}
 use Rattle.promises.specs.Drawing.{Outcome}
 use Rattle.promises.specs.Report.{report}
 use Rattle.promises.specs.Text.{list_room, text_for}
-use Rattle.promises.specs.Laws.Cut.{cut_to, cut_same}
+use Rattle.promises.specs.Laws.Cut.{cut_to}
+use Rattle.promises.proofs.Laws.Cut.{cut_same}
 use Rattle.program_files.specs.Files.{rules_limit, question_limit, union_limit, facts_limit, Filled, TextOf}
 use Rattle.program_files.specs.FileCuts.{read_first}
 

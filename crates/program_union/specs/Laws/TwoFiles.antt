@@ -6,7 +6,7 @@ use Rattle.std.proofs.Math.ListN.{take}
 use Rattle.promises.specs.Output.{sheet_room, error_line, output_for, error_for}
 use Rattle.promises.specs.Writing.{WriteOutcome}
 use Rattle.promises.specs.Laws.Cut.{cut_to}
-use Rattle.promises.specs.Laws.Output.{write_cut_same}
+use Rattle.promises.proofs.Laws.Output.{write_cut_same}
 use Rattle.program_files.specs.Files.{rules_limit, question_limit, TwoFilled, OutputOf}
 use Rattle.program_files.specs.FileCuts.{read_first}
 

@@ -7,8 +7,8 @@ use Rattle.theory.specs.Syntax.{var, Query, terms, same_term}
 use Rattle.theory.specs.Rewriting.{fresh}
 use Rattle.theory.specs.Laws.Options.{three_ways}
 use Rattle.theory.specs.Laws.Lists.{any_same}
-use Rattle.theory.specs.Laws.Syntax.{same_term_iff}
-use Rattle.theory.specs.Laws.Fresh.{fresh_new, fresh_lowest}
+use Rattle.theory.proofs.Laws.Syntax.{same_term_iff}
+use Rattle.theory.proofs.Laws.Fresh.{fresh_new, fresh_lowest}
 use Rattle.query_sets.specs.Sets.{holds}
 use Rattle.query_sets.specs.Laws.Digits.{holds_below}
 

@@ -7,7 +7,7 @@ use Rattle.std.proofs.Math.Seq.{split_at}
 use Rattle.theory.specs.Lists.{◌∈◌}
 use Rattle.theory.specs.Syntax.{var, const, concept, role, args}
 use Rattle.theory.specs.Laws.Lists.{mem_along}
-use Rattle.theory.specs.Laws.Syntax.{terms_answers, terms_atoms}
+use Rattle.theory.proofs.Laws.Syntax.{terms_answers, terms_atoms}
 use Rattle.words.specs.Records.{term_of, atom_of}
 use Rattle.words.specs.Words.{LowTerm, LowAtom, TermWords, query_of, Small, word_term, word_atom, word_kind, word_name, word_first}
 use Rattle.words.specs.Words.{word_second}

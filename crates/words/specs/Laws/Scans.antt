@@ -5,7 +5,7 @@ use Rattle.std.proofs.Math.Path.{ap}
 use Rattle.theory.specs.Lists.{any, all, count, pairwise}
 use Rattle.theory.specs.Syntax.{Term, Atom, args, places}
 use Rattle.theory.specs.Laws.Lists.{any_flat_map}
-use Rattle.theory.specs.Laws.Syntax.{places_flat_map}
+use Rattle.theory.proofs.Laws.Syntax.{places_flat_map}
 use Rattle.theory.specs.Laws.Counting.{total, count_append}
 use Rattle.theory.specs.Laws.Scans.{some_from, all_from, total_from, test_at, scans}
 use Rattle.theory.specs.Laws.Scans.{some_record, all_records, total_records, all_pairs, unequal_records}
