@@ -1,0 +1,17 @@
+use Rattle.read_helpers.proofs.ClashLaws.{atomLaws}
+use Rattle.read_helpers.proofs.fact_clashes.Goals as goal
+
+pub fact_kind-requires : goal.fact_kind-requires
+fact_kind-requires c = search atomLaws
+
+pub fact_name-requires : goal.fact_name-requires
+fact_name-requires c = search atomLaws
+
+pub is_helper-requires : goal.is_helper-requires
+is_helper-requires c = search atomLaws
+
+pub returns-then-fact_kind-eq0 : goal.returns-then-fact_kind-eq0
+returns-then-fact_kind-eq0 c = search atomLaws
+
+pub returns-else-fact_kind-eq0 : goal.returns-else-fact_kind-eq0
+returns-else-fact_kind-eq0 c = search atomLaws

@@ -1,0 +1,39 @@
+use mathlib.Core.Path.{◌≡◌}
+use Prim.Native.Nat.{◌-◌, ◌≤◌}
+use Rattle.theory.specs.Lists.{all}
+use Rattle.words.specs.Limits.{sheet_width, record_bytes}
+use Rattle.sheets.specs.Laws.RecordLoops.{left}
+use Rattle.sheets.specs.Tests.{atom_sound}
+use Rattle.read_question.specs.QuestionWords.{atoms_from}
+use Rattle.read_question.proofs.QuestionLaws.{laws}
+use Rattle.read_question.proofs.atoms_sound.Goals as goal
+
+pub loop-i-init : goal.loop-i-init
+loop-i-init c = search laws
+
+pub overflow_mul-i : goal.overflow_mul-i
+overflow_mul-i c = search laws
+
+pub overflow_add-from : goal.overflow_add-from
+overflow_add-from c = search laws
+
+pub six-requires : goal.six-requires
+six-requires c = search laws
+
+pub atom_sound-requires : goal.atom_sound-requires
+atom_sound-requires c = search laws
+
+pub returns-then-not-atom_sound : goal.returns-then-not-atom_sound
+returns-then-not-atom_sound c = search laws
+
+pub overflow_add-i : goal.overflow_add-i
+overflow_add-i c = search laws
+
+pub loop-i-smaller : goal.loop-i-smaller
+loop-i-smaller c = search laws
+
+pub loop-i-preserved : goal.loop-i-preserved
+loop-i-preserved c = search laws
+
+pub returns : goal.returns
+returns c = search laws

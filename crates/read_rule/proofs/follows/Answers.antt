@@ -1,0 +1,17 @@
+use Rattle.read_rule.proofs.RuleLaws.{formLaws}
+use Rattle.read_rule.proofs.follows.Goals as goal
+
+pub rule_kind-requires : goal.rule_kind-requires
+rule_kind-requires c = search formLaws
+
+pub in_place-requires : goal.in_place-requires
+in_place-requires c = search formLaws
+
+pub pair_forms-requires : goal.pair_forms-requires
+pair_forms-requires c = search formLaws
+
+pub returns-then-in_place : goal.returns-then-in_place
+returns-then-in_place c = search formLaws
+
+pub returns-else-in_place : goal.returns-else-in_place
+returns-else-in_place c = search formLaws

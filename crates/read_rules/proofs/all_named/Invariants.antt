@@ -1,0 +1,16 @@
+use mathlib.Core.Path.{◌≡◌}
+use Prim.Native.Nat.{◌-◌, ◌/◌}
+use lib.ListN.{length}
+use Rattle.theory.specs.Lists.{all}
+use Rattle.words.specs.Limits.{rule_bytes}
+use Rattle.sheets.specs.Format.{rule_records}
+use Rattle.sheets.specs.Tests.{passes2}
+use Rattle.read_rules.specs.Filling.{rest}
+use Rattle.read_rules.proofs.RuleSheetLaws.{allLaws}
+use Rattle.read_rules.proofs.all_named.Given as goal
+
+abbrev pub invariant-loop-i : goal.invariant-loop-i
+invariant-loop-i l = all passes2 (rest l.s l.i) ≡ all passes2 (rule_records l.s)
+
+abbrev pub decreases-loop-i : goal.decreases-loop-i
+decreases-loop-i l = length l.s / rule_bytes - l.i

@@ -1,0 +1,14 @@
+use mathlib.Core.Path.{◌≡◌}
+use Prim.Native.Nat.{◌+◌, ◌-◌, ◌/◌, ◌≤◌}
+use lib.ListN.{length}
+use Rattle.words.specs.Limits.{rule_bytes}
+use Rattle.sheets.specs.Format.{rule_records, pairs_in}
+use Rattle.read_rules.specs.Filling.{rest}
+use Rattle.read_rules.proofs.RuleSheetLaws.{countLaws}
+use Rattle.read_rules.proofs.count_pairs.Given as goal
+
+abbrev pub invariant-loop-i : goal.invariant-loop-i
+invariant-loop-i l = (l.pairs ≤ l.i) × (l.i ≤ length l.s / rule_bytes) × (l.pairs + pairs_in (rest l.s l.i) ≡ pairs_in (rule_records l.s))
+
+abbrev pub decreases-loop-i : goal.decreases-loop-i
+decreases-loop-i l = length l.s / rule_bytes - l.i

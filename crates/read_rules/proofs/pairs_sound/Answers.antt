@@ -1,0 +1,40 @@
+use mathlib.Core.Path.{◌≡◌}
+use Prim.Native.Nat.{◌-◌, ◌/◌}
+use mathlib.Core.Bool.{false}
+use lib.ListN.{length}
+use Rattle.words.specs.Limits.{rule_bytes}
+use Rattle.sheets.specs.Format.{rule_records}
+use Rattle.sheets.specs.Tests.{pairs_sound}
+use Rattle.read_rules.specs.Filling.{rest}
+use Rattle.read_rules.proofs.RuleSheetLaws.{soundLaws}
+use Rattle.read_rules.proofs.pairs_sound.Goals as goal
+
+pub loop-i-init : goal.loop-i-init
+loop-i-init c = search soundLaws
+
+pub overflow_mul-i : goal.overflow_mul-i
+overflow_mul-i c = search soundLaws
+
+pub four-x-requires : goal.four-x-requires
+four-x-requires c = search soundLaws
+
+pub follows-requires : goal.follows-requires
+follows-requires c = search soundLaws
+
+pub returns-then-not-follows : goal.returns-then-not-follows
+returns-then-not-follows c = search soundLaws
+
+pub rule_kind-waits-requires : goal.rule_kind-waits-requires
+rule_kind-waits-requires c = search soundLaws
+
+pub overflow_add-i : goal.overflow_add-i
+overflow_add-i c = search soundLaws
+
+pub loop-i-smaller : goal.loop-i-smaller
+loop-i-smaller c = search soundLaws
+
+pub loop-i-preserved : goal.loop-i-preserved
+loop-i-preserved c = search soundLaws
+
+pub returns : goal.returns
+returns c = search soundLaws

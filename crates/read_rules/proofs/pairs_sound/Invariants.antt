@@ -1,0 +1,16 @@
+use mathlib.Core.Path.{◌≡◌}
+use Prim.Native.Nat.{◌-◌, ◌/◌}
+use mathlib.Core.Bool.{false}
+use lib.ListN.{length}
+use Rattle.words.specs.Limits.{rule_bytes}
+use Rattle.sheets.specs.Format.{rule_records}
+use Rattle.sheets.specs.Tests.{pairs_sound}
+use Rattle.read_rules.specs.Filling.{rest}
+use Rattle.read_rules.proofs.RuleSheetLaws.{soundLaws}
+use Rattle.read_rules.proofs.pairs_sound.Given as goal
+
+abbrev pub invariant-loop-i : goal.invariant-loop-i
+invariant-loop-i l = pairs_sound l.waits (rest l.s l.i) ≡ pairs_sound false (rule_records l.s)
+
+abbrev pub decreases-loop-i : goal.decreases-loop-i
+decreases-loop-i l = length l.s / rule_bytes - l.i
