@@ -5,7 +5,7 @@ use Rattle.theory.specs.Syntax.{on_atoms}
 use Rattle.theory.specs.Laws.Scans.{all_from, test_at}
 use Rattle.words.specs.Words.{query_of, word_atom}
 use Rattle.query_partial.specs.Partial.{may_become}
-use Rattle.query_partial.proofs.PartialLaws.{loopLaws}
+use Rattle.query_partial.proofs.PartialLaws.{loop_laws}
 use Rattle.query_partial.proofs.all_come.Statement.{statement}
 use Rattle.query_partial.proofs.all_come.Tie as tie
 
@@ -21,5 +21,5 @@ decreases-loop m p atoms n i₀ i = n - i
 pub all-come-spec : {M : Type 1} → statement M
 all-come-spec =
     tie.close
-    (tie.spec invariant-loop decreases-loop (λ c. search loopLaws) (λ c. search loopLaws) (λ c. search loopLaws) (λ c. search loopLaws)
-    (λ c. search loopLaws) (λ c. search loopLaws) (λ c. search loopLaws) (λ c. search loopLaws) (λ c. search loopLaws))
+    (tie.spec invariant-loop decreases-loop (λ c. search loop_laws) (λ c. search loop_laws) (λ c. search loop_laws) (λ c. search loop_laws)
+    (λ c. search loop_laws) (λ c. search loop_laws) (λ c. search loop_laws) (λ c. search loop_laws) (λ c. search loop_laws))

@@ -4,7 +4,7 @@ use lib.ListN.{get_or}
 use Rattle.theory.specs.Laws.Scans.{all_from}
 use Rattle.words.specs.Words.{word_term}
 use Rattle.query_partial.specs.Partial.{may_become}
-use Rattle.query_partial.proofs.PartialLaws.{loopLaws}
+use Rattle.query_partial.proofs.PartialLaws.{loop_laws}
 use Rattle.query_partial.proofs.answers_go.Statement.{statement}
 use Rattle.query_partial.proofs.answers_go.Tie as tie
 
@@ -20,6 +20,6 @@ decreases-loop m from to n i₀ i = n - i
 pub answers-go-spec : {M : Type 1} → statement M
 answers-go-spec =
     tie.close
-    (tie.spec invariant-loop decreases-loop (λ c. search loopLaws) (λ c. search loopLaws) (λ c. search loopLaws) (λ c. search loopLaws)
-    (λ c. search loopLaws) (λ c. search loopLaws) (λ c κs. (search loopLaws, search loopLaws, search loopLaws, search loopLaws))
-    (λ c. search loopLaws) (λ c. search loopLaws) (λ c. search loopLaws) (λ c. search loopLaws) (λ c. search loopLaws))
+    (tie.spec invariant-loop decreases-loop (λ c. search loop_laws) (λ c. search loop_laws) (λ c. search loop_laws) (λ c. search loop_laws)
+    (λ c. search loop_laws) (λ c. search loop_laws) (λ c κs. (search loop_laws, search loop_laws, search loop_laws, search loop_laws))
+    (λ c. search loop_laws) (λ c. search loop_laws) (λ c. search loop_laws) (λ c. search loop_laws) (λ c. search loop_laws))

@@ -4,7 +4,7 @@ use Rattle.theory.specs.Syntax.{on_atoms}
 use Rattle.theory.specs.Laws.Scans.{some_from, test_at}
 use Rattle.words.specs.Words.{word_atom}
 use Rattle.query_partial.specs.Partial.{may_become}
-use Rattle.query_partial.proofs.PartialLaws.{loopLaws}
+use Rattle.query_partial.proofs.PartialLaws.{loop_laws}
 use Rattle.query_partial.proofs.goes_somewhere.Statement.{statement}
 use Rattle.query_partial.proofs.goes_somewhere.Tie as tie
 
@@ -20,5 +20,5 @@ decreases-loop m a atoms n i₀ i = n - i
 pub goes-somewhere-spec : {M : Type 1} → statement M
 goes-somewhere-spec =
     tie.close
-    (tie.spec invariant-loop decreases-loop (λ c. search loopLaws) (λ c. search loopLaws) (λ c. search loopLaws) (λ c. search loopLaws)
-    (λ c. search loopLaws) (λ c. search loopLaws) (λ c. search loopLaws) (λ c. search loopLaws) (λ c. search loopLaws))
+    (tie.spec invariant-loop decreases-loop (λ c. search loop_laws) (λ c. search loop_laws) (λ c. search loop_laws) (λ c. search loop_laws)
+    (λ c. search loop_laws) (λ c. search loop_laws) (λ c. search loop_laws) (λ c. search loop_laws) (λ c. search loop_laws))

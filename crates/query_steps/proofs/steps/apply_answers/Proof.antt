@@ -5,7 +5,7 @@ use lib.ListN.{length, take}
 use Rattle.theory.specs.Syntax.{subst_term}
 use Rattle.words.specs.Words.{TermWords, word_term}
 use Rattle.query_substitution.specs.Substitutions.{subst_of}
-use Rattle.query_steps.proofs.StepLaws.{fillLaws}
+use Rattle.query_steps.proofs.StepLaws.{fill_laws}
 use Rattle.query_steps.proofs.steps.apply_answers.Statement.{statement}
 use Rattle.query_steps.proofs.steps.apply_answers.Tie as tie
 
@@ -20,6 +20,6 @@ decreases-loop s answers n words₀ i₀ words i = n - i
 pub apply-answers-spec : {M : Type 1} → statement M
 apply-answers-spec =
     tie.close
-    (tie.spec invariant-loop decreases-loop (λ c. search fillLaws) (λ c. search fillLaws) (λ c. search fillLaws) (λ c. search fillLaws)
-    (λ c. search fillLaws) (λ c. search fillLaws) (λ c. search fillLaws) (λ c. search fillLaws)
-    (λ c. (search fillLaws, search fillLaws, search fillLaws, search fillLaws)) (λ c. search fillLaws))
+    (tie.spec invariant-loop decreases-loop (λ c. search fill_laws) (λ c. search fill_laws) (λ c. search fill_laws) (λ c. search fill_laws)
+    (λ c. search fill_laws) (λ c. search fill_laws) (λ c. search fill_laws) (λ c. search fill_laws)
+    (λ c. (search fill_laws, search fill_laws, search fill_laws, search fill_laws)) (λ c. search fill_laws))

@@ -5,7 +5,7 @@ use lib.ListN.{length, take}
 use Rattle.theory.specs.Syntax.{map_atom, subst_term}
 use Rattle.words.specs.Words.{word_atom}
 use Rattle.query_substitution.specs.Substitutions.{subst_of}
-use Rattle.query_steps.proofs.StepLaws.{fillLaws}
+use Rattle.query_steps.proofs.StepLaws.{fill_laws}
 use Rattle.query_steps.proofs.steps.apply_atoms.Statement.{statement}
 use Rattle.query_steps.proofs.steps.apply_atoms.Tie as tie
 
@@ -20,6 +20,6 @@ decreases-loop s atoms n words₀ i₀ words i = n - i
 pub apply-atoms-spec : {M : Type 1} → statement M
 apply-atoms-spec =
     tie.close
-    (tie.spec invariant-loop decreases-loop (λ c. search fillLaws) (λ c. search fillLaws) (λ c. search fillLaws) (λ c. search fillLaws)
-    (λ c. search fillLaws) (λ c. search fillLaws) (λ c. search fillLaws) (λ c. search fillLaws)
-    (λ c. (search fillLaws, search fillLaws, search fillLaws)) (λ c. search fillLaws))
+    (tie.spec invariant-loop decreases-loop (λ c. search fill_laws) (λ c. search fill_laws) (λ c. search fill_laws) (λ c. search fill_laws)
+    (λ c. search fill_laws) (λ c. search fill_laws) (λ c. search fill_laws) (λ c. search fill_laws)
+    (λ c. (search fill_laws, search fill_laws, search fill_laws)) (λ c. search fill_laws))

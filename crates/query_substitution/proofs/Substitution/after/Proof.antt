@@ -4,7 +4,7 @@ use lib.ListN.{length}
 use Rattle.theory.specs.Rewriting.{after}
 use Rattle.words.specs.Words.{word_term}
 use Rattle.query_substitution.specs.Substitutions.{SmallTargets, subst_of}
-use Rattle.query_substitution.proofs.SubstitutionLaws.{afterLaws, up_to}
+use Rattle.query_substitution.proofs.SubstitutionLaws.{after_laws, up_to}
 use Rattle.query_substitution.proofs.Substitution.after.Statement.{statement}
 use Rattle.query_substitution.proofs.Substitution.after.Tie as tie
 
@@ -19,6 +19,6 @@ decreases-loop v t self₀ i₀ self i = 32 - i
 pub after-spec : {M : Type 1} → statement M
 after-spec =
     tie.close
-    (tie.spec invariant-loop decreases-loop (λ c. search afterLaws) (λ c. search afterLaws) (λ c. search afterLaws) (λ c. search afterLaws)
-    (λ c. search afterLaws) (λ c. search afterLaws) (λ c. search afterLaws) (λ c. search afterLaws)
-    (λ c. (search afterLaws, search afterLaws, search afterLaws, search afterLaws, search afterLaws)) (λ c. search afterLaws))
+    (tie.spec invariant-loop decreases-loop (λ c. search after_laws) (λ c. search after_laws) (λ c. search after_laws) (λ c. search after_laws)
+    (λ c. search after_laws) (λ c. search after_laws) (λ c. search after_laws) (λ c. search after_laws)
+    (λ c. (search after_laws, search after_laws, search after_laws, search after_laws, search after_laws)) (λ c. search after_laws))

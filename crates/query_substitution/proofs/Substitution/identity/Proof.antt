@@ -4,7 +4,7 @@ use mathlib.Core.Bool.{true}
 use lib.ListN.{length}
 use Rattle.theory.specs.Syntax.{var}
 use Rattle.query_substitution.specs.Substitutions.{SmallTargets, subst_of}
-use Rattle.query_substitution.proofs.SubstitutionLaws.{identityLaws, up_to}
+use Rattle.query_substitution.proofs.SubstitutionLaws.{identity_laws, up_to}
 use Rattle.query_substitution.proofs.Substitution.identity.Statement.{statement}
 use Rattle.query_substitution.proofs.Substitution.identity.Tie as tie
 
@@ -19,6 +19,6 @@ decreases-loop to₀ i₀ to i = 32 - i
 pub identity-spec : {M : Type 1} → statement M
 identity-spec =
     tie.close
-    (tie.spec invariant-loop decreases-loop (λ c. search identityLaws) (λ c. search identityLaws) (λ c. search identityLaws) (λ c. search identityLaws)
-    (λ c. search identityLaws) (λ c. (search identityLaws, search identityLaws, search identityLaws, search identityLaws))
-    (λ c. search identityLaws))
+    (tie.spec invariant-loop decreases-loop (λ c. search identity_laws) (λ c. search identity_laws) (λ c. search identity_laws) (λ c. search identity_laws)
+    (λ c. search identity_laws) (λ c. (search identity_laws, search identity_laws, search identity_laws, search identity_laws))
+    (λ c. search identity_laws))
