@@ -1,0 +1,38 @@
+use mathlib.Core.Path.{◌≡◌}
+use Prim.Native.Nat.{◌-◌, ◌≤◌}
+use lib.ListN.{length}
+use Rattle.theory.specs.Rewriting.{after}
+use Rattle.words.specs.Words.{word_term}
+use Rattle.query_substitution.specs.Substitutions.{SmallTargets, subst_of}
+use Rattle.query_substitution.proofs.SubstitutionLaws.{after_laws, up_to}
+use Rattle.query_substitution.proofs.Substitution.after.Goals as goal
+
+pub loop-i-init : goal.loop-i-init
+loop-i-init c = search after_laws
+
+pub offset_bounds-self-i : goal.offset_bounds-self-i
+offset_bounds-self-i c = search after_laws
+
+pub bounds-self-i : goal.bounds-self-i
+bounds-self-i c = search after_laws
+
+pub replaced-requires : goal.replaced-requires
+replaced-requires c = search after_laws
+
+pub offset_bounds-self-i-in-loop-i : goal.offset_bounds-self-i-in-loop-i
+offset_bounds-self-i-in-loop-i c = search after_laws
+
+pub bounds-self-i-in-loop-i : goal.bounds-self-i-in-loop-i
+bounds-self-i-in-loop-i c = search after_laws
+
+pub overflow_add-i : goal.overflow_add-i
+overflow_add-i c = search after_laws
+
+pub loop-i-smaller : goal.loop-i-smaller
+loop-i-smaller c = search after_laws
+
+pub loop-i-preserved : goal.loop-i-preserved
+loop-i-preserved c = (search after_laws, search after_laws, search after_laws, search after_laws, search after_laws)
+
+pub returns : goal.returns
+returns c = search after_laws
