@@ -1,11 +1,3 @@
-use mathlib.Core.Path.{◌≡◌}
-use Prim.Native.Nat.{◌-◌, ◌/◌}
-use lib.ListN.{length}
-use Rattle.theory.specs.Lists.{all}
-use Rattle.words.specs.Limits.{rule_bytes}
-use Rattle.sheets.specs.Format.{rule_records}
-use Rattle.sheets.specs.Tests.{passes2}
-use Rattle.read_rules.specs.Filling.{rest}
 use Rattle.read_rules.proofs.RuleSheetLaws.{all_laws}
 use Rattle.read_rules.proofs.all_named.Goals as goal
 

@@ -1,10 +1,4 @@
-use mathlib.Core.Path.{◌≡◌}
-use Prim.Native.Nat.{◌-◌, ◌≤◌}
-use lib.ListN.{length}
-use Rattle.theory.specs.Rewriting.{after}
-use Rattle.words.specs.Words.{word_term}
-use Rattle.query_substitution.specs.Substitutions.{SmallTargets, subst_of}
-use Rattle.query_substitution.proofs.SubstitutionLaws.{after_laws, up_to}
+use Rattle.query_substitution.proofs.SubstitutionLaws.{after_laws}
 use Rattle.query_substitution.proofs.Substitution.after.Goals as goal
 
 pub loop-i-init : goal.loop-i-init

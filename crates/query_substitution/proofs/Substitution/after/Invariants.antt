@@ -4,7 +4,7 @@ use lib.ListN.{length}
 use Rattle.theory.specs.Rewriting.{after}
 use Rattle.words.specs.Words.{word_term}
 use Rattle.query_substitution.specs.Substitutions.{SmallTargets, subst_of}
-use Rattle.query_substitution.proofs.SubstitutionLaws.{after_laws, up_to}
+use Rattle.query_substitution.proofs.SubstitutionLaws.{up_to}
 use Rattle.query_substitution.proofs.Substitution.after.Given as goal
 
 abbrev pub invariant-loop-i : goal.invariant-loop-i

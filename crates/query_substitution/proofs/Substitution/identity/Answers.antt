@@ -1,10 +1,4 @@
-use mathlib.Core.Path.{◌≡◌}
-use Prim.Native.Nat.{◌-◌, ◌≤◌}
-use mathlib.Core.Bool.{true}
-use lib.ListN.{length}
-use Rattle.theory.specs.Syntax.{var}
-use Rattle.query_substitution.specs.Substitutions.{SmallTargets, subst_of}
-use Rattle.query_substitution.proofs.SubstitutionLaws.{identity_laws, up_to}
+use Rattle.query_substitution.proofs.SubstitutionLaws.{identity_laws}
 use Rattle.query_substitution.proofs.Substitution.identity.Goals as goal
 
 pub loop-i-init : goal.loop-i-init

@@ -4,7 +4,7 @@ use mathlib.Core.Bool.{true}
 use lib.ListN.{length}
 use Rattle.theory.specs.Syntax.{var}
 use Rattle.query_substitution.specs.Substitutions.{SmallTargets, subst_of}
-use Rattle.query_substitution.proofs.SubstitutionLaws.{identity_laws, up_to}
+use Rattle.query_substitution.proofs.SubstitutionLaws.{up_to}
 use Rattle.query_substitution.proofs.Substitution.identity.Given as goal
 
 abbrev pub invariant-loop-i : goal.invariant-loop-i
