@@ -1,6 +1,3 @@
-use mathlib.Core.Path.{◌≡◌}
-use Prim.Native.Nat.{◌≤◌, ◌-◌}
-use lib.Seq.{paste}
 use Rattle.explain_place.proofs.TargetLaws.{laws}
 use Rattle.explain_place.proofs.put_targets.Goals as goal
 

@@ -2,7 +2,6 @@
 use mathlib.Core.Path.{◌≡◌}
 use Prim.Native.Nat.{◌≤◌, ◌-◌}
 use lib.Seq.{paste}
-use Rattle.explain_place.proofs.TargetLaws.{laws}
 use Rattle.explain_place.proofs.put_targets.Given as goal
 
 abbrev pub invariant-loop-i : goal.invariant-loop-i

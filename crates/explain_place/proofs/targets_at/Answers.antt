@@ -1,6 +1,4 @@
-use mathlib.Core.Path.{◌≡◌}
-use Prim.Native.Nat.{◌≤◌, ◌-◌}
-use Rattle.explain_place.proofs.TargetLaws.{laws, copied}
+use Rattle.explain_place.proofs.TargetLaws.{laws}
 use Rattle.explain_place.proofs.targets_at.Goals as goal
 
 pub loop-i-init : goal.loop-i-init

@@ -1,7 +1,7 @@
 -- The loop's invariant: the first i targets are copied.
 use mathlib.Core.Path.{◌≡◌}
 use Prim.Native.Nat.{◌≤◌, ◌-◌}
-use Rattle.explain_place.proofs.TargetLaws.{laws, copied}
+use Rattle.explain_place.proofs.TargetLaws.{copied}
 use Rattle.explain_place.proofs.targets_at.Given as goal
 
 abbrev pub invariant-loop-i : goal.invariant-loop-i
