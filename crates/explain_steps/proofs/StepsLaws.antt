@@ -1,25 +1,24 @@
 -- The way back in a table of members: how many parents there are, and the place of a member.
 use mathlib.Core.Path.{◌≡◌, refl, sym, ap, ◌∙◌, subst}
-use Prim.Native.Nat.{ℕ, zero, suc, ◌+◌, ◌*◌, ◌≤◌, ◌<◌}
+use Prim.Native.Nat.{ℕ, suc, ◌+◌, ◌*◌, ◌≤◌, ◌<◌}
 use native.Mathlib.Nat.{zero-add, add-zero}
 use native.Mathlib.Omega.{arith}
 use mathlib.Core.Bool.{Bool, true, false}
-use mathlib.Core.Option.{some}
 use mathlib.Core.List.{List}
-use lib.ListN.{length, get_or}
+use lib.ListN.{get_or}
 use borrow.Author.Rules.{rules}
 use Rattle.theory.specs.Lists.{At}
 use Rattle.theory.specs.Syntax.{Rule, Query, Step, UCQ}
 use Rattle.theory.specs.Renaming.{Alike}
-use Rattle.theory.specs.Union.{yield, Yields}
+use Rattle.theory.specs.Union.{yield}
 use Rattle.theory.specs.Targets.{Smallest, HandedBack}
 use Rattle.theory.specs.Explaining.{PlaceOf}
 use Rattle.theory.specs.Laws.Options.{guard_some}
 use Rattle.theory.proofs.Laws.WrittenStep.{yield_iff}
 use Rattle.theory.specs.Laws.Explaining.{Behind}
 use Rattle.words.specs.Records.{step_of, step_kind, step_parent, step_atom, step_other}
-use Rattle.words.specs.Words.{rules_in, union_in, query_of}
-use Rattle.words.specs.Rows.{Rows, member_in}
+use Rattle.words.specs.Words.{union_in, query_of}
+use Rattle.words.specs.Rows.{member_in}
 use Rattle.words.specs.declared.QueryWords.{QueryWords}
 use Rattle.words.specs.Laws.Rows.{row_within, row_there, step_within, step_there, union_at}
 use Rattle.query_steps.specs.StepResults.{query_found}

@@ -1,6 +1,4 @@
-use Rattle.explain_steps.proofs.FillLaws.{fill_laws, FilledSoFar}
-use lib.ListN.{length}
-use Rattle.words.specs.Words.{rules_in}
+use Rattle.explain_steps.proofs.FillLaws.{fill_laws}
 use Rattle.explain_steps.proofs.fill_back.Goals as goal
 
 pub loop-next-init : goal.loop-next-init

@@ -1,4 +1,4 @@
-use Rattle.explain_steps.proofs.StepsLaws.{climb_laws, Climbed}
+use Rattle.explain_steps.proofs.StepsLaws.{climb_laws}
 use Rattle.explain_steps.proofs.parents_behind.Goals as goal
 
 pub loop-at-init : goal.loop-at-init

@@ -1,4 +1,4 @@
-use Rattle.explain_steps.proofs.StepsLaws.{climb_laws, Climbed}
+use Rattle.explain_steps.proofs.StepsLaws.{Climbed}
 use Rattle.explain_steps.proofs.parents_behind.Given as goal
 
 abbrev pub invariant-loop-at : goal.invariant-loop-at
