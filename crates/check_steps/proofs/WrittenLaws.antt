@@ -67,7 +67,8 @@ module _ (r : QueryFound) (o : Option Query) (e : query_found r ≡ o) where
 -- ---- a rule by its number
 
 module _ (rules : List ℕ) (count : ℕ) (within : count ≤ length rules) (r : QueryFound) (q : QueryWords) (i k : ℕ) where
-  pub rule_steps : k < count → ((rs : List Rule) (l : ℕ) → At rs l (rule_in (get_or rules k 0)) → query_found r ≡ rule_step rs (query_of q) i l)
+  pub rule_steps : k < count → ((rs : List Rule) (l : ℕ) → At rs l (rule_in (get_or rules k 0)) → query_found r
+      ≡ rule_step rs (query_of q) i l)
       → query_found r ≡ rule_step (rules_in rules count) (query_of q) i k
   rule_steps h f = f (rules_in rules count) k (rule_there rules count within k h)
 

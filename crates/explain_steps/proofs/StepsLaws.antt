@@ -29,7 +29,8 @@ use Rattle.explain_steps.specs.Filling.{StepsMade, ParentsEarlier}
 -- ---- parents
 
 -- the parent that a member's words say
-pub parent_there : (table : List ℕ) (k parent : ℕ) → parent ≡ step_parent (get_or table (16 * k) 0) → (member_in table k).step.parent ≡ parent
+pub parent_there : (table : List ℕ) (k parent : ℕ) → parent ≡ step_parent (get_or table (16 * k) 0) → (member_in table k).step.parent
+    ≡ parent
 unfolding step_of
 parent_there table k parent e = ap (λ (s : Step). s.parent) (step_there table k) ∙ sym e
 
@@ -94,7 +95,8 @@ module _ (rules : List Rule) (table : List ℕ) (n k : ℕ) (made : StepsMade ru
   pub place_is : (y : QueryFound) (q : QueryWords) (found : Bool) (targets : List ℕ) (kind parent atom other : ℕ)
       → query_found y ≡ yield rules (union_in table n) k (member_in table k).step → query_of q ≡ (member_in table k).query
       → HandedBack (query_of y.query) (query_of q) found targets → kind ≡ step_kind (get_or table (16 * k) 0)
-      → parent ≡ step_parent (get_or table (16 * k) 0) → atom ≡ step_atom (get_or table (16 * k) 0) → other ≡ step_other (get_or table (16 * k) 0)
+      → parent ≡ step_parent (get_or table (16 * k) 0) → atom ≡ step_atom (get_or table (16 * k) 0) → other
+      ≡ step_other (get_or table (16 * k) 0)
       → PlaceOf rules (union_in table n) k
       (step_of_place (record { member = k; kind = kind; parent = parent; atom = atom; other = other; targets = targets }))
   unfolding query_found step_of

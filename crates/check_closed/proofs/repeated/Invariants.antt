@@ -6,7 +6,8 @@ use Rattle.check_closed.proofs.ClosureLaws.{same_word}
 use Rattle.check_closed.proofs.repeated.Given as goal
 
 abbrev pub invariant-loop-earlier : goal.invariant-loop-earlier
-invariant-loop-earlier l = (l.earlier ≤ l.k) × (some_from (same_word l.rules l.k) l.earlier l.k ≡ any (same_word l.rules l.k) (numbers 0 l.k))
+invariant-loop-earlier l = (l.earlier ≤ l.k)
+    × (some_from (same_word l.rules l.k) l.earlier l.k ≡ any (same_word l.rules l.k) (numbers 0 l.k))
 
 abbrev pub decreases-loop-earlier : goal.decreases-loop-earlier
 decreases-loop-earlier l = l.k - l.earlier

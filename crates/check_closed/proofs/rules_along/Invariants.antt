@@ -7,7 +7,8 @@ use Rattle.check_closed.proofs.rules_along.Given as goal
 
 abbrev pub invariant-loop-at : goal.invariant-loop-at
 invariant-loop-at l =
-    Walked (rule_out (union_in l.table l.n) (query_of l.q) (rules_in l.rules l.count) l.i) l.rules (place_of (word_name (get_or l.q.atoms l.i 0))) l.count l.at
+    Walked (rule_out (union_in l.table l.n) (query_of l.q) (rules_in l.rules l.count) l.i) l.rules
+    (place_of (word_name (get_or l.q.atoms l.i 0))) l.count l.at
 
 abbrev pub decreases-loop-at : goal.decreases-loop-at
 decreases-loop-at l = l.at

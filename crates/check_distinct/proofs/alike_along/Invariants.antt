@@ -12,7 +12,8 @@ use Rattle.check_distinct.proofs.alike_along.Given as goal
 abbrev pub invariant-loop-at : goal.invariant-loop-at
 invariant-loop-at l =
     Walked (alike_at (query_of l.q) l.table) l.keys (place_of l.wanted) l.n l.at
-    × (some_from (alike_at (query_of l.q) l.table) l.from l.n ≡ any (λ m. alike (query_of l.q) m.query) (drop l.from (union_in l.table l.n)))
+    × (some_from (alike_at (query_of l.q) l.table) l.from l.n
+    ≡ any (λ m. alike (query_of l.q) m.query) (drop l.from (union_in l.table l.n)))
 
 abbrev pub decreases-loop-at : goal.decreases-loop-at
 decreases-loop-at l = l.at

@@ -10,7 +10,8 @@ use Rattle.check_distinct.proofs.alike_from.Given as goal
 
 abbrev pub invariant-loop-j : goal.invariant-loop-j
 invariant-loop-j l =
-    (l.j ≤ l.n) × (some_from (alike_at (query_of l.q) l.table) l.j l.n ≡ any (λ m. alike (query_of l.q) m.query) (drop l.from (union_in l.table l.n)))
+    (l.j ≤ l.n) × (some_from (alike_at (query_of l.q) l.table) l.j l.n
+    ≡ any (λ m. alike (query_of l.q) m.query) (drop l.from (union_in l.table l.n)))
 
 abbrev pub decreases-loop-j : goal.decreases-loop-j
 decreases-loop-j l = l.n - l.j

@@ -17,5 +17,6 @@ decreases-loop list at terms out₀ end left₀ from₀ to₀ out left from to =
 pub put-line-spec : {M : Type 1} → statement M
 put-line-spec =
     tie.close
-    (tie.spec invariant-loop decreases-loop (λ c. search laws) (λ c κs. search laws) (λ c. search laws) (λ c. search laws) (λ c. search laws)
+    (tie.spec invariant-loop decreases-loop (λ c. search laws) (λ c κs. search laws) (λ c. search laws) (λ c. search laws)
+    (λ c. search laws)
     (λ c. search laws) (λ c. search laws) (λ c. search laws))

@@ -12,7 +12,8 @@ abbrev pub invariant-loop-j : goal.invariant-loop-j
 invariant-loop-j l =
     (l.j ≤ l.q.size) × (length l.table ≡ length l.initial.table) × (length l.keys ≡ length l.initial.keys)
     × LaterLeft l.parent l.q l.i l.q.size
-    (appended_all (union_in l.initial.table l.n) (flat_map (by_merge l.parent (query_of l.q) l.i) (numbers 0 l.q.size))) l.j l.table l.keys l.members
+    (appended_all (union_in l.initial.table l.n)
+    (flat_map (by_merge l.parent (query_of l.q) l.i) (numbers 0 l.q.size))) l.j l.table l.keys l.members
 
 abbrev pub decreases-loop-j : goal.decreases-loop-j
 decreases-loop-j l = l.q.size - l.j

@@ -8,7 +8,8 @@ use Rattle.write_sheet.proofs.numbers.put_number.Given as goal
 
 abbrev pub invariant-loop-k : goal.invariant-loop-k
 invariant-loop-k l =
-    (l.k ≤ l.size) × (length l.sheet ≡ length l.initial.sheet) × (put_at l.sheet l.at (bytes_of l.k l.rest) ≡ put_at l.initial.sheet l.at (bytes_of l.size l.number))
+    (l.k ≤ l.size) × (length l.sheet ≡ length l.initial.sheet)
+    × (put_at l.sheet l.at (bytes_of l.k l.rest) ≡ put_at l.initial.sheet l.at (bytes_of l.size l.number))
 
 abbrev pub decreases-loop-k : goal.decreases-loop-k
 decreases-loop-k l = l.k

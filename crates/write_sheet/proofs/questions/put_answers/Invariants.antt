@@ -12,7 +12,8 @@ use Rattle.write_sheet.proofs.questions.put_answers.Given as goal
 abbrev pub invariant-loop-i : goal.invariant-loop-i
 invariant-loop-i l =
     (l.i ≤ l.n)
-    × Remaining l.initial.sheet l.at (answers_bytes sheet_width (map word_term (take l.n l.answers))) l.sheet (l.at + answer_bytes sheet_width * l.i)
+    × Remaining l.initial.sheet l.at (answers_bytes sheet_width (map word_term (take l.n l.answers))) l.sheet
+    (l.at + answer_bytes sheet_width * l.i)
     (answers_from l.answers l.n l.i)
 
 abbrev pub decreases-loop-i : goal.decreases-loop-i

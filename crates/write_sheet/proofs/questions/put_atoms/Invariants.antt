@@ -12,7 +12,8 @@ use Rattle.write_sheet.proofs.questions.put_atoms.Given as goal
 abbrev pub invariant-loop-i : goal.invariant-loop-i
 invariant-loop-i l =
     (l.i ≤ l.n)
-    × Remaining l.initial.sheet l.at (atoms_bytes sheet_width (map word_atom (take l.n l.atoms))) l.sheet (l.at + record_bytes sheet_width * l.i)
+    × Remaining l.initial.sheet l.at (atoms_bytes sheet_width (map word_atom (take l.n l.atoms))) l.sheet
+    (l.at + record_bytes sheet_width * l.i)
     (atoms_from l.atoms l.n l.i)
 
 abbrev pub decreases-loop-i : goal.decreases-loop-i
