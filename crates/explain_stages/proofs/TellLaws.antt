@@ -1,5 +1,5 @@
 -- Facts and members as they were read are what explaining asks for, and a refusal of theirs is what the call gives.
-use mathlib.Core.Path.{◌≡◌, refl, sym, ap, ◌∙◌, subst}
+use mathlib.Core.Path.{◌≡◌, sym, ap, ◌∙◌, subst}
 use mathlib.Core.Logic.{inl, inr}
 use Prim.Native.Nat.{ℕ, ◌*◌, ◌≤◌, ◌<◌}
 use native.Mathlib.Decide.{ℕ_discrete}
@@ -8,10 +8,9 @@ use mathlib.Core.Bool.{Bool, true, false, ◌||◌}
 use mathlib.Core.List.{List}
 use lib.ListN.{length, replicate}
 use borrow.Author.Rules.{rules}
-use Rattle.theory.specs.Lists.{◌∈◌, pick}
+use Rattle.theory.specs.Lists.{pick}
 use Rattle.theory.specs.Refusals.{otherwise}
-use Rattle.theory.specs.Syntax.{Rule, Query, Member, UCQ, Fact}
-use Rattle.theory.specs.Chase.{FirstReader}
+use Rattle.theory.specs.Syntax.{Rule, Query, UCQ, Fact}
 use Rattle.theory.specs.Qualified.{roles_of_atoms}
 use Rattle.theory.specs.Laws.Lists.{at_mem}
 use Rattle.theory.specs.Laws.Explaining.{Behind}
