@@ -13,7 +13,7 @@ use borrow.Author.Rules.{rules}
 use borrow.Rule.Slice.PartMut.{mid_of, put_mid, same_len_mid, mid_len, take_put}
 use Rattle.program_files.specs.Files.{rules_limit, question_limit, union_limit, facts_limit}
 use Rattle.program_files.specs.Files.{rules_file, question_file, union_file, facts_file, file_name, Reads, Grown, Taken}
-use Rattle.io.specs.Counts.{IsPrefixLen, clamp_len}
+use Rattle.promises.specs.Counts.{IsPrefixLen, clamp_len}
 
 -- ---- reading
 
