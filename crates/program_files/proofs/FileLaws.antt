@@ -4,7 +4,7 @@ use lib.Seq.{length-take-le}
 use borrow.Author.Rules.{rules}
 use Rattle.promises.specs.Counts.{IsPrefixLen}
 use Rattle.program_files.specs.Files.{rules_limit, question_limit, union_limit, facts_limit}
-use Rattle.program_files.specs.Files.{rules_file, question_file, union_file, facts_file, file_name, Reads, Grown, Taken}
+use Rattle.program_files.specs.Files.{rules_file, question_file, union_file, facts_file, file_name, Reads, Taken}
 
 -- ---- reading
 

@@ -16,7 +16,11 @@ pub fn fail(rt: &impl Eprint, what: &str, error: Error) {
     let _ = write!(text, "{error}");
     let length = text.position() as usize;
     let bytes = text.into_inner();
-    let said = if length <= bytes.len() { length } else { bytes.len() };
+    let said = if length <= bytes.len() {
+        length
+    } else {
+        bytes.len()
+    };
     if let Ok(why) = str::from_utf8(&bytes[..said]) {
         let why = words(why);
         let _ = eprintln!(rt; "{what}: {why}");
