@@ -165,7 +165,7 @@ module _ (p : List ℕ) (rules : List Rule) (q : Query) (terms : ℕ) (s table :
       goes_on room (answers_of (facts_as_read p sheet_width facts) (union_as_read p sheet_width s)) number (union_number p rules q terms s) _ r list
       read.number_is zero (subst (λ u. GivesFromFacts p facts u terms helpers clash room r list) (read.union_is zero) g)
 
-pub ruleset factLaws = (
+pub ruleset fact_laws = (
   rules,
   rows_there,
   arity_there,
@@ -179,4 +179,4 @@ pub ruleset factLaws = (
   facts_pass,
 )
 
-pub ruleset unionLaws = (rules, terms_few, members_there, safe_there, merges_there, union_refused, union_passes)
+pub ruleset union_laws = (rules, terms_few, members_there, safe_there, merges_there, union_refused, union_passes)

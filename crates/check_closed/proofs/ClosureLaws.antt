@@ -17,7 +17,7 @@ use Rattle.theory.specs.Renaming.{alike}
 use Rattle.theory.specs.Union.{refuses11}
 use Rattle.theory.proofs.Laws.StepShape.{step_distinct}
 use Rattle.theory.specs.Laws.Lists.{any_append, any_map, any_flat_map, any_iff, numbers_iff}
-use Rattle.theory.specs.Laws.Scans.{some_from, numberScans, skip, some_begins, some_later, some_found, some_none}
+use Rattle.theory.specs.Laws.Scans.{some_from, number_scans, skip, some_begins, some_later, some_found, some_none}
 use Rattle.theory.specs.Laws.Scans.{NoneIn, none_yet, none_longer, records_length}
 use Rattle.words.specs.Records.{rule_in}
 use Rattle.words.specs.Words.{query_of, Small, rules_in, union_in, word_atom}
@@ -199,7 +199,7 @@ module _ (rules : List Rule) (table : List ℕ) (n : ℕ) where
 
 pub ruleset laws = (
   rules,
-  numberScans,
+  number_scans,
   rows,
   leads_inside,
   leads_out,

@@ -123,4 +123,4 @@ module _ (rules : List ℕ) (count : ℕ) (words : List ℕ) (m : ℕ) (same : S
 pub ruleset laws = (rules, rows, eleven_too, cleared, words_few, words_within, is_indexed)
 
 -- for the loop along a chain
-pub ruleset chainLaws = (rules, rows, rules_begin, walks, one_found, none_found)
+pub ruleset chain_laws = (rules, rows, rules_begin, walks, one_found, none_found)

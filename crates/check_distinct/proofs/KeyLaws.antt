@@ -13,7 +13,7 @@ use Rattle.theory.specs.Syntax.{Rule, Query}
 use Rattle.theory.specs.Renaming.{alike}
 use Rattle.theory.specs.Union.{refuses10}
 use Rattle.theory.specs.Laws.Lists.{any_map}
-use Rattle.theory.specs.Laws.Scans.{some_from, numberScans, skip, some_next, some_found}
+use Rattle.theory.specs.Laws.Scans.{some_from, number_scans, skip, some_next, some_found}
 use Rattle.words.specs.Words.{query_of, union_in}
 use Rattle.words.specs.declared.QueryWords.{QueryWords}
 use Rattle.words.specs.Rows.{Rows, member_in}
@@ -133,7 +133,7 @@ module _ (table : List ℕ) (n : ℕ) where
 
 pub ruleset laws = (
   rules,
-  numberScans,
+  number_scans,
   rows,
   no_keys,
   keys_more,
@@ -154,4 +154,4 @@ pub ruleset laws = (
 )
 
 -- for the loop along a chain
-pub ruleset chainLaws = (rules, rows, key_room, members_from_lem, keys_only, walks, walk_found, walk_ends)
+pub ruleset chain_laws = (rules, rows, key_room, members_from_lem, keys_only, walks, walk_found, walk_ends)

@@ -16,7 +16,7 @@ use Rattle.theory.specs.Syntax.{Rule, Query, Member, UCQ}
 use Rattle.theory.specs.Rewriting.{rule_step, merge_step}
 use Rattle.theory.specs.Renaming.{alike}
 use Rattle.theory.specs.Union.{yield, yields_unlike, any_from, refuses8, refuses9}
-use Rattle.theory.specs.Laws.Scans.{some_from, numberScans, some_later, some_found, some_none}
+use Rattle.theory.specs.Laws.Scans.{some_from, number_scans, some_later, some_found, some_none}
 use Rattle.words.specs.Records.{rule_in, step_kind, step_parent, step_atom, step_other, step_of}
 use Rattle.words.specs.Words.{query_of, Small, rules_in, member_of, union_in}
 use Rattle.words.specs.declared.QueryWords.{QueryWords}
@@ -216,7 +216,7 @@ module _ (rules : List Rule) (table : List ℕ) (n k : ℕ) (q : Query) (before 
 
 pub ruleset laws = (
   rules,
-  numberScans,
+  number_scans,
   rows,
   nothing_found,
   small_too,

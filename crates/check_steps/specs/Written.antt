@@ -4,6 +4,7 @@ use Rattle.std.proofs.Math.Option.{Option}
 use Rattle.theory.specs.Lists.{is_some}
 use Rattle.theory.specs.Syntax.{Query}
 use Rattle.theory.specs.Union.{yields_unlike}
+pub use Rattle.theory.specs.Explaining.{step_from}
 
 -- what the step beside a member yields is nothing (8); is a question that is not alike to the member's (9)
 pub record FaultsOf (yielded : Option Query) (q : Query) (fails unlike : Bool) : Type 0 where

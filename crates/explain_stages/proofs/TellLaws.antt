@@ -192,13 +192,13 @@ module _ (p question : List ℕ) (number : ℕ) (q : QueryWords) (read : Questio
 pub terms_doubled : (terms : ℕ) → terms ≤ 4 → 2 * terms < 65536
 terms_doubled terms h = omega arith
 
-pub ruleset tupleLaws = (rules, wrong_length_lem, no_member_yields, tells_steps, terms_doubled)
+pub ruleset tuple_laws = (rules, wrong_length_lem, no_member_yields, tells_steps, terms_doubled)
 
-pub ruleset factLaws = (rules, facts_refused, facts_few, facts_within, zeros_there, facts_clash, facts_pass)
+pub ruleset fact_laws = (rules, facts_refused, facts_few, facts_within, zeros_there, facts_clash, facts_pass)
 
-pub ruleset questionLaws = (rules, question_small, question_refused, question_passes)
+pub ruleset question_laws = (rules, question_small, question_refused, question_passes)
 
-pub ruleset unionLaws = (
+pub ruleset union_laws = (
   rules,
   terms_few,
   rows_there,

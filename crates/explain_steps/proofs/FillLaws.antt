@@ -280,7 +280,7 @@ module _ (rules : List Rule) (union : UCQ) (k room behind : ℕ) (b : Behind uni
 pub few_bytes : (behind k n : ℕ) → behind ≤ k → k < n → n ≤ 512 → 40 * behind < 65536
 few_bytes behind k n a b c = omega arith
 
-pub ruleset fillLaws = (
+pub ruleset fill_laws = (
   rules,
   made_earlier,
   step_within,
@@ -295,4 +295,4 @@ pub ruleset fillLaws = (
   filled_back,
 )
 
-pub ruleset tellLaws = (rules, made_earlier, room_for, tells_short, tells_filled, few_bytes)
+pub ruleset tell_laws = (rules, made_earlier, room_for, tells_short, tells_filled, few_bytes)

@@ -124,6 +124,6 @@ module _ (rules : List Rule) (table : List ℕ) (n k : ℕ) (made : StepsMade ru
 pub member_fits : (k n : ℕ) → k < n → n ≤ 512 → k < 65536
 member_fits k n h l = omega arith
 
-pub ruleset climbLaws = (rules, step_within, climb_begins, climbs, climb_less, climb_below, climbed_few, climbed_all)
+pub ruleset climb_laws = (rules, step_within, climb_begins, climbs, climb_less, climb_below, climbed_few, climbed_all)
 
-pub ruleset placeLaws = (rules, row_within, row_there, step_within, place_is, member_fits)
+pub ruleset place_laws = (rules, row_within, row_there, step_within, place_is, member_fits)

@@ -15,7 +15,7 @@ use Rattle.theory.specs.Laws.Options.{T_and, T_eqb, is_true, same_test}
 use Rattle.theory.proofs.Laws.Spellings.{spellings}
 use Rattle.words.specs.Records.{atom_of}
 use Rattle.words.specs.Words.{Small, word_term, word_atom, word_kind, word_name, word_first, word_second, LowTerm, LowAtom, first_of, second_of}
-use Rattle.words.specs.Laws.Scans.{queryScans}
+use Rattle.words.specs.Laws.Scans.{query_scans}
 use Rattle.words.specs.declared.QueryWords.{QueryWords}
 use Rattle.words.specs.Laws.LowVariables.{answer_low, atom_low, first_low, second_low}
 use Rattle.words.specs.Laws.LowVariables.{variable_word, object_high, object_term, word_below}
@@ -162,9 +162,9 @@ module _ (m : Partial) (p q : Query) (r : Bool) (answers : r ≡ pairwise (may_b
     unfolding promising
     nothing_against t f come = come ∙ sym (simp (sym answers, sym go, e, f))
 
-pub ruleset termLaws = (rules, spellings, unassigned_may, assigned_may, variables_may, variable_object, object_may)
+pub ruleset term_laws = (rules, spellings, unassigned_may, assigned_may, variables_may, variable_object, object_may)
 
-pub ruleset atomLaws = (
+pub ruleset atom_laws = (
   rules,
   spellings,
   first_low,
@@ -179,6 +179,6 @@ pub ruleset atomLaws = (
   predicates_differ,
 )
 
-pub ruleset loopLaws = (rules, spellings, queryScans, atom_low, answer_low, partner_low, word_below)
+pub ruleset loop_laws = (rules, spellings, query_scans, atom_low, answer_low, partner_low, word_below)
 
-pub ruleset promisingLaws = (rules, spellings, answers_against, atoms_against, nothing_against)
+pub ruleset promising_laws = (rules, spellings, answers_against, atoms_against, nothing_against)

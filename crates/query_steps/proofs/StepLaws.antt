@@ -25,7 +25,7 @@ use Rattle.theory.proofs.Laws.Syntax.{same_atom_iff, terms_atoms, terms_answers,
 use Rattle.words.specs.Records.{rule_in}
 use Rattle.words.specs.Words.{TermWords, query_of, Small, word_term, word_atom, LowAtom}
 use Rattle.words.specs.Limits.{word_term_bound}
-use Rattle.words.specs.Laws.Scans.{queryScans}
+use Rattle.words.specs.Laws.Scans.{query_scans}
 use Rattle.words.specs.declared.QueryWords.{QueryWords}
 use Rattle.words.specs.Laws.LowVariables.{answer_low, atom_low}
 use Rattle.query_substitution.specs.Substitutions.{SmallTerm, SmallTargets, subst_of, unifier_of}
@@ -340,10 +340,10 @@ module _ (q : QueryWords) (i j : ℕ) where
           let fits : unify (word_atom (get_or q.atoms i 0)) (word_atom (get_or q.atoms j 0)) ≡ some (subst_of u) = sym e ∙ simp y in
           ap some d ∙ sym (simp (lt-ltb i j h, atom_at_lem q i l s (omega arith), atom_at_lem q j l s g, fits))
 
-pub ruleset onceLaws = (
+pub ruleset once_laws = (
   rules,
   spellings,
-  queryScans,
+  query_scans,
   atom_stands,
   atom_appended,
   none_kept,
@@ -352,9 +352,9 @@ pub ruleset onceLaws = (
   kept_small,
 )
 
-pub ruleset changeLaws = (rules, spellings, changed_small, atom_changed)
+pub ruleset change_laws = (rules, spellings, changed_small, atom_changed)
 
-pub ruleset fillLaws = (
+pub ruleset fill_laws = (
   rules,
   spellings,
   no_term_filled,
@@ -369,8 +369,8 @@ pub ruleset fillLaws = (
   term_stored,
 )
 
-pub ruleset sentLaws = (rules, spellings, sent_small, sent_once)
+pub ruleset sent_laws = (rules, spellings, sent_small, sent_once)
 
-pub ruleset ruleLaws = (rules, spellings, nothing_found, still_small, made_low, rule_past, rule_unfit, rule_fits)
+pub ruleset rule_laws = (rules, spellings, nothing_found, still_small, made_low, rule_past, rule_unfit, rule_fits)
 
-pub ruleset mergeLaws = (rules, spellings, still_small, atom_low, earlier_low, merge_order, merge_past, merge_unfit, merge_fits)
+pub ruleset merge_laws = (rules, spellings, still_small, atom_low, earlier_low, merge_order, merge_past, merge_unfit, merge_fits)

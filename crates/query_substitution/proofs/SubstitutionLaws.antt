@@ -323,20 +323,20 @@ module _ (a b : ℕ) where
       roles_unified f' g' r' z fa' gb' h' =
           h' ∙ sym (simp (role_atom a (λ y. z (ka ∙ y)), role_atom b (λ y. z (ka ∙ one_kind e ∙ y)), one_number e, first_bound, fa', gb'))
 
-pub ruleset termLaws = (rules, spellings, replaced_there, kept_elsewhere, small_place, applied, object_applied)
+pub ruleset term_laws = (rules, spellings, replaced_there, kept_elsewhere, small_place, applied, object_applied)
 
-pub ruleset placeLaws = (rules, spellings, small_variable, small_place, targets_below, none_yet, targets_stored)
+pub ruleset place_laws = (rules, spellings, small_variable, small_place, targets_below, none_yet, targets_stored)
 
-pub ruleset identityLaws = (placeLaws, variable_stored, identity_done)
+pub ruleset identity_laws = (place_laws, variable_stored, identity_done)
 
-pub ruleset afterLaws = (placeLaws, after_stored, after_done)
+pub ruleset after_laws = (place_laws, after_stored, after_done)
 
-pub ruleset objectLaws = (object_first, object_second, two_objects)
+pub ruleset object_laws = (object_first, object_second, two_objects)
 
-pub ruleset joinLaws = (rules, spellings, higher_first, higher_second, objectLaws, bound_next, failed_before, bound)
+pub ruleset join_laws = (rules, spellings, higher_first, higher_second, object_laws, bound_next, failed_before, bound)
 
-pub ruleset atomLaws = (rules, spellings, small_first, small_second, concept_applied, role_applied, small_concept, small_role)
+pub ruleset atom_laws = (rules, spellings, small_first, small_second, concept_applied, role_applied, small_concept, small_role)
 
-pub ruleset predicateLaws = (predicates_exchanged, kinds_decide, kinds_differ)
+pub ruleset predicate_laws = (predicates_exchanged, kinds_decide, kinds_differ)
 
-pub ruleset unifyLaws = (atomLaws, predicateLaws, small_second_other, no_unifier, concepts_unified, roles_unified)
+pub ruleset unify_laws = (atom_laws, predicate_laws, small_second_other, no_unifier, concepts_unified, roles_unified)

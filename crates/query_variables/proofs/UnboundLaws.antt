@@ -13,7 +13,7 @@ use Rattle.theory.specs.Rewriting.{unbound}
 use Rattle.theory.proofs.Laws.Spellings.{spellings}
 use Rattle.words.specs.Records.{term_of}
 use Rattle.words.specs.Words.{word_term, word_atom, word_kind, word_first, word_second, first_of, second_of}
-use Rattle.words.specs.Laws.Scans.{queryScans}
+use Rattle.words.specs.Laws.Scans.{query_scans}
 use Rattle.words.specs.Laws.LowVariables.{concept_atom, role_atom, word_below}
 use Rattle.words.specs.Limits.{word_object_bound}
 
@@ -70,4 +70,4 @@ module _ (q : Query) (t : ℕ) (v : Bool) (is : v ≡ eqb (t / word_object_bound
       → n ≡ count (same_term (word_term t)) (places q.atoms) → eqb n 1 ≡ unbound q (word_term t)
   count_decides b n e f h i = simp i (sym (unbound_tests e ∙ simp (sym f ∙ h, and-true)))
 
-pub ruleset laws = (rules, spellings, queryScans, word_below, one_place, two_places, object_bound_lem, answer_bound, count_decides)
+pub ruleset laws = (rules, spellings, query_scans, word_below, one_place, two_places, object_bound_lem, answer_bound, count_decides)

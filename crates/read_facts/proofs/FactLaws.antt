@@ -27,7 +27,7 @@ use Rattle.sheets.specs.Reading.{facts_as_read}
 use Rattle.sheets.specs.Refusals.{fact_refusals, number_of}
 use Rattle.sheets.specs.Tests.{fact_sound, refuses12, refuses13}
 use Rattle.sheets.specs.Laws.RecordLoops.{Nth, left}
-use Rattle.sheets.proofs.Laws.RecordLoops.{rowLaws, row_length, test_begins, test_ends, test_passed, test_failed, fill_begins}
+use Rattle.sheets.proofs.Laws.RecordLoops.{row_laws, row_length, test_begins, test_ends, test_passed, test_failed, fill_begins}
 use Rattle.sheets.proofs.Laws.RecordLoops.{fill_goes_on, fill_ends, no_multiple, too_long, unsound_record, no_refusal}
 use Rattle.read_records.specs.ReadIntoLaws.{sheet_refused, sheet_read}
 use Rattle.read_facts.specs.FactSheets.{FactsRead, HoldsFacts, Widened, HasFields}
@@ -296,7 +296,7 @@ module _ (s : List ℕ) where
 
 pub ruleset laws = (
   rules,
-  rowLaws,
+  row_laws,
   sound_tested,
   is_sound,
   is_higher_lem,

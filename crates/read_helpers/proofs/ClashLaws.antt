@@ -68,7 +68,7 @@ module _ (p : List ℕ) (k f n : ℕ) where
   side_clash g low r e h =
       h ∙ ap (is_helper k) e ∙ sym (one_role k (lower p n)) ∙ ap (clashing k) (sym (role_form p f n g))
 
-pub ruleset sideLaws = (rules, in_use, concept_clear, side_clash)
+pub ruleset side_laws = (rules, in_use, concept_clear, side_clash)
 
 -- ---- a record
 
@@ -96,7 +96,7 @@ module _ (p : List ℕ) (k x kind : ℕ) (is : kind ≡ rule_kind x) where
       (et ∙ ap₂ (λ f n. clashing k (roles_of_basic (basic_as_read p (basic_of f n)))) er em) in
       rw (ne_eqb (rule_kind x) 2 (λ e. f (is ∙ e)), ne_eqb (rule_kind x) 4 (λ e. g (is ∙ e))) (whole ∙ sym sides)
 
-pub ruleset recordLaws = (rules, two_roles, filler_clear, two_sides)
+pub ruleset record_laws = (rules, two_roles, filler_clear, two_sides)
 
 -- ---- an atom, a fact
 
@@ -120,7 +120,7 @@ module _ (k a kind : ℕ) (is : kind ≡ fact_kind word_width a) where
   fact_clash_lem f n r e h =
       rw (ne_eqb (fact_kind word_width a) 0 (λ d. f (is ∙ d))) (h ∙ ap (is_helper k) e ∙ sym (one_role k (fact_name word_width a)))
 
-pub ruleset atomLaws = (rules, atom_clear, atom_clash, fact_clear, fact_clash_lem)
+pub ruleset atom_laws = (rules, atom_clear, atom_clash, fact_clear, fact_clash_lem)
 
 -- ---- loops
 
@@ -144,7 +144,7 @@ module _ (p : List ℕ) (k : ℕ) (s : List ℕ) where
       ∙ sym (clashing_flat k (record_roles p) (rule_records s))
       ∙ ap (clashing k) (sym (sheet_roles p sheet_width s (subst T (sym passed) tt) (subst T (sym sound) tt)))
 
-pub ruleset rulesLaws = (rules, scans, record_here, rules_scanned)
+pub ruleset rules_laws = (rules, scans, record_here, rules_scanned)
 
 -- whether some word of a table has one, by what a word says
 abbrev pub word_at : {X : Type 0} → (ℕ → Atom X) → ℕ → List ℕ → ℕ → Bool
@@ -174,12 +174,12 @@ pub facts_scanned : (k : ℕ) (table : List ℕ) (n : ℕ) → n ≤ length tabl
 unfolding facts_in
 facts_scanned k table n h = words_scanned word_fact k table n h
 
-pub ruleset wordsLaws = (rules, scans, atoms_scanned, facts_scanned)
+pub ruleset words_laws = (rules, scans, atoms_scanned, facts_scanned)
 
-pub ruleset questionLaws = (rules, question_clash, few_atoms_there)
+pub ruleset question_laws = (rules, question_clash, few_atoms_there)
 
 -- a clash that is known, or one that was looked for
 pub or_found : (c x y : Bool) → x ≡ y → (c || x) ≡ (c || y)
 or_found c x y e = ap (λ b. c || b) e
 
-pub ruleset eitherLaws = (rules, or_found)
+pub ruleset either_laws = (rules, or_found)

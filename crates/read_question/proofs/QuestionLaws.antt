@@ -17,7 +17,7 @@ use Rattle.sheets.specs.Format.{term_count, atom_count, answer_records, atom_rec
 use Rattle.sheets.specs.Partners.{atom_as_read, query_as_read}
 use Rattle.sheets.specs.Tests.{term_sound, answer_sound, atom_sound, question_sound}
 use Rattle.sheets.specs.Laws.RecordLoops.{Nth, left}
-use Rattle.sheets.proofs.Laws.RecordLoops.{rowLaws, each_passes, fill_ends}
+use Rattle.sheets.proofs.Laws.RecordLoops.{row_laws, each_passes, fill_ends}
 use Rattle.read_question.specs.QuestionWords.{answers_from, atoms_from}
 
 -- ---- a sound question
@@ -170,7 +170,7 @@ query_read p s at terms size answers atoms e d f g = rw (f, g, e, d)
 
 pub ruleset laws = (
   rules,
-  rowLaws,
+  row_laws,
   first_unsound,
   second_decides,
   many_terms,

@@ -33,4 +33,4 @@ module _ {X : Type 0} (refusal : ℕ) (values : List X) (held : ℕ → List X) 
     pub count_there : number ≡ 0 → count ≡ length values
     count_there e = r.counted e
 
-pub ruleset readingLaws = (read_there, count_there)
+pub ruleset reading_laws = (read_there, count_there)

@@ -72,7 +72,7 @@ filler_borne f H filler p q bh bf =
     (role_described (3 - f) H (omega arith) (omega arith) bh ∙ ap (λ b. some_role b H) (other_form f p q))
     (name_described filler bf)
 
-pub ruleset wordLaws = (rules, turn_on, turn_off, helper_had, role_implied, filler_borne)
+pub ruleset word_laws = (rules, turn_on, turn_off, helper_had, role_implied, filler_borne)
 
 -- ---- a kind 3's forms
 
@@ -145,4 +145,4 @@ module _ (table : List ℕ) (at : ℕ) (room : at + 3 ≤ length table) where
         words =
             rw (wa, wb, wc, left, turned, ey, eo, er)
 
-pub ruleset pairLaws = (rules, left_in, right_some, right_in, room_second, room_third, pair_put)
+pub ruleset pair_laws = (rules, left_in, right_some, right_in, room_second, room_third, pair_put)

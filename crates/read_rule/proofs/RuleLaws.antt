@@ -125,7 +125,7 @@ stands_wrong x k waits t four d e f g =
     neither : {b : Bool} (P : Bool) → false ≡ b → false ≡ (b && P)
     neither P e = rw (← e)
 
-pub ruleset formLaws = (
+pub ruleset form_laws = (
   rules,
   forms_both,
   forms_not_right,
@@ -294,4 +294,4 @@ module _ (p : List ℕ) (x : ℕ) where
   role_rule_as_read f m n l d r k ef em en el bl er br ed bd =
       role_word l d r bl bd br ∙ rw (ne_eqb (rule_kind x) 1 k, ← ef, ← em, ← en, el, er, ed)
 
-pub ruleset ruleLaws = (rules, left_named, right_named, right_direction, concept_rule_as_read, role_rule_as_read)
+pub ruleset rule_laws = (rules, left_named, right_named, right_direction, concept_rule_as_read, role_rule_as_read)

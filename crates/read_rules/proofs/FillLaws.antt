@@ -24,7 +24,7 @@ use Rattle.sheets.specs.Reading.{rules_as_written, rules_as_read}
 use Rattle.sheets.specs.Tests.{passes2, pairs_sound}
 use Rattle.sheets.proofs.Laws.Tests.{lt_or_le}
 use Rattle.sheets.specs.Laws.RecordLoops.{Nth}
-use Rattle.sheets.proofs.Laws.RecordLoops.{left_all, left_next, left_none, rowLaws}
+use Rattle.sheets.proofs.Laws.RecordLoops.{left_all, left_next, left_none, row_laws}
 use Rattle.sheets.proofs.Laws.RuleSheets.{written_rule, written_pair, sound_three, sound_four, sound_other}
 use Rattle.read_rule.specs.PairPut.{PairPut}
 use Rattle.read_rules.specs.Filling.{FewRules, rest, rules_of_rest, FillingRules}
@@ -245,9 +245,9 @@ kind_three x k e d = sym e ∙ d
 pub kind_another : (x k : ℕ) → k ≡ rule_kind x → (k ≡ 3 → ⊥) → rule_kind x ≡ 3 → ⊥
 kind_another x k e f d = f (e ∙ d)
 
-pub ruleset fillLaws = (
+pub ruleset fill_laws = (
   rules,
-  rowLaws,
+  row_laws,
   fill_begins,
   fill_ends,
   kind_three,

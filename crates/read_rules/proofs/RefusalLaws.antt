@@ -17,7 +17,7 @@ use Rattle.sheets.specs.Format.{rule_records, pairs_in}
 use Rattle.sheets.specs.Refusals.{rule_refusals, number_of}
 use Rattle.sheets.specs.Reading.{rules_as_written, rules_as_read}
 use Rattle.sheets.specs.Tests.{refuses1, passes2, refuses2, pairs_sound, refuses17}
-use Rattle.sheets.proofs.Laws.RecordLoops.{row_length, rowLaws}
+use Rattle.sheets.proofs.Laws.RecordLoops.{row_length, row_laws}
 use Rattle.sheets.proofs.Laws.RuleSheets.{rules_counted as as_many_rules, helpers_counted}
 use Rattle.theory.specs.Qualified.{helpers_of, roles_of_rules}
 use Rattle.read_helpers.specs.InUse.{clashing}
@@ -145,9 +145,9 @@ module _ (p s : List ℕ) where
 pub as_tested : (b c : Bool) → b ≡ c → b ≡ true → c ≡ true
 as_tested b c e t = sym e ∙ t
 
-pub ruleset refusalLaws = (
+pub ruleset refusal_laws = (
   rules,
-  rowLaws,
+  row_laws,
   sheet_refused,
   helpers_none,
   as_tested,
@@ -159,4 +159,4 @@ pub ruleset refusalLaws = (
   helpers_there,
 )
 
-pub ruleset pairedLaws = (rules, paired_many, few_rules, paired_read)
+pub ruleset paired_laws = (rules, paired_many, few_rules, paired_read)

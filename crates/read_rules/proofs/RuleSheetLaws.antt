@@ -15,9 +15,9 @@ use Rattle.sheets.specs.Format.{rule_records, pairs_in}
 use Rattle.sheets.specs.Tests.{follows, pairs_sound}
 use Rattle.read_rules.specs.Filling.{rest}
 use Rattle.sheets.specs.Laws.RecordLoops.{Nth}
-use Rattle.sheets.proofs.Laws.RecordLoops.{left_all, left_next, left_none, rowLaws}
+use Rattle.sheets.proofs.Laws.RecordLoops.{left_all, left_next, left_none, row_laws}
 
-pub ruleset allLaws = (rules, rowLaws)
+pub ruleset all_laws = (rules, row_laws)
 
 -- ---- pairs
 
@@ -43,7 +43,7 @@ module _ (s : List ℕ) where
       pub pairs_go_on : t ≡ true → (k : ℕ) (w : Bool) → k ≡ rule_kind x → w ≡ eqb k 3 → pairs_sound w (rest s (i + 1)) ≡ b
       pairs_go_on d k w ek ew = let n : pairs_sound (eqb (rule_kind x) 3) (rest s (i + 1)) ≡ b = rw d at next in rw (ew, ek) n
 
-pub ruleset soundLaws = (rules, rowLaws, pairs_begin, pairs_end, pairs_fail, pairs_go_on)
+pub ruleset sound_laws = (rules, row_laws, pairs_begin, pairs_end, pairs_fail, pairs_go_on)
 
 -- ---- how many
 
@@ -77,4 +77,4 @@ begins k x e d = rw (eq-eqb (rule_kind x) 3 (sym e ∙ d))
 pub begins_none : (k : ℕ) (x : ℕ) → k ≡ rule_kind x → (k ≡ 3 → ⊥) → ◌≡◌ {A = ℕ} 0 (pick (eqb (rule_kind x) 3) 1 0)
 begins_none k x e d = rw (ne_eqb (rule_kind x) 3 (λ f. d (e ∙ f)))
 
-pub ruleset countLaws = (rules, rowLaws, begins, begins_none, count_begins, count_ends, count_goes_on)
+pub ruleset count_laws = (rules, row_laws, begins, begins_none, count_begins, count_ends, count_goes_on)

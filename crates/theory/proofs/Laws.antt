@@ -51,6 +51,7 @@ pub mod Bounded
 pub mod QualifiedPlaces
 pub mod QualifiedWritten
 pub mod NamedRounds
+pub mod QualifiedReadBy
 pub mod QualifiedRead
 pub mod Qualified
 -- the rules behind an answer

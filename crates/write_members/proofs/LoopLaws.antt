@@ -341,12 +341,12 @@ pairs_begin parent q size table keys n f = record {
       (union_in table n) refl;
 }
 
-pub ruleset ruleTries = (rules, by_rule_lem, unnamed, second_try)
+pub ruleset rule_tries = (rules, by_rule_lem, unnamed, second_try)
 
-pub ruleset ruleLoop = (rules, found_few, rules_begin, rules_done, rules_stop, rules_next)
+pub ruleset rule_loop = (rules, found_few, rules_begin, rules_done, rules_stop, rules_next)
 
-pub ruleset atomLoop = (rules, found_few, atoms_begin, atoms_done, atoms_stop, atoms_next)
+pub ruleset atom_loop = (rules, found_few, atoms_begin, atoms_done, atoms_stop, atoms_next)
 
-pub ruleset laterLoop = (rules, found_few, later_begin, merge_distinct, later_done, later_stop, later_next)
+pub ruleset later_loop = (rules, found_few, later_begin, merge_distinct, later_done, later_stop, later_next)
 
-pub ruleset pairLoop = (rules, found_few, pairs_begin, pairs_done, pairs_stop, pairs_next)
+pub ruleset pair_loop = (rules, found_few, pairs_begin, pairs_done, pairs_stop, pairs_next)

@@ -167,8 +167,8 @@ module _ (table keys later row : List ℕ) (q : QueryWords) (r : RowOf (record {
   first_asked rules written m h =
       subst (λ (x : Member). HoldsUnion (written_union most_members rules x.query) written m) first_is h
 
-pub ruleset memberSteps = (rules, holds_found, found_few, rows, found_rows, rules_over, then_merges)
+pub ruleset member_steps = (rules, holds_found, found_few, rows, found_rows, rules_over, then_merges)
 
-pub ruleset memberLoop = (rules, found_few, taken_begin, taken_all, taken_next, taken_stop)
+pub ruleset member_loop = (rules, found_few, taken_begin, taken_all, taken_next, taken_stop)
 
-pub ruleset firstMember = (rules, first_found, first_step, first_asked)
+pub ruleset first_member = (rules, first_found, first_step, first_asked)

@@ -158,7 +158,7 @@ module _ (table : List ℕ) (n j at : ℕ) (first sheet : List ℕ)
 
 pub ruleset laws = (rules, rows, step_room, step_fits, end_fits, question_room, member_put, member_same, member_end_lem)
 
-pub ruleset loopLaws = (
+pub ruleset loop_laws = (
   rules,
   rows,
   remaining_same,

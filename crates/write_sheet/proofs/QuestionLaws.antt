@@ -235,7 +235,7 @@ module _ (q : QueryWords) (four : length q.answers ≡ 4) (eight : length q.atom
               let r : at + 1 + 3 * q.terms + 6 * q.size ≤ length two = atoms_room in
               ap length h ∙ put_length two (at + 1 + 3 * q.terms) (atoms_all q.atoms q.size) (omega arith) ∙ two_long
 
-pub ruleset recordLaws = (
+pub ruleset record_laws = (
   rules,
   remaining_same,
   word_below,

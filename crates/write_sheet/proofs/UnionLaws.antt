@@ -113,6 +113,6 @@ module _ (table : List ℕ) (n : ℕ) where
               ap (λ l. take end two ++ (part ++ l)) nothing_after ∙ ap (λ l. take end two ++ l) (append-nil part)
               ∙ ap₂ ◌++◌ front cleared
 
-pub ruleset lengthLaws = (rules, rows, length_begins, length_next, length_done)
+pub ruleset length_laws = (rules, rows, length_begins, length_next, length_done)
 
 pub ruleset laws = (rules, count_room, members_room, two_long, end_within, sheet_written)

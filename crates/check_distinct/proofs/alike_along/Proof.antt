@@ -6,7 +6,7 @@ use Rattle.theory.specs.Laws.Scans.{some_from}
 use Rattle.words.specs.Words.{query_of, union_in}
 use Rattle.check_chains.specs.Chains.{place_of}
 use Rattle.check_chains.specs.WalkLaws.{Walked}
-use Rattle.check_distinct.proofs.KeyLaws.{chainLaws, alike_at}
+use Rattle.check_distinct.proofs.KeyLaws.{chain_laws, alike_at}
 use Rattle.check_distinct.proofs.alike_along.Statement.{statement}
 use Rattle.check_distinct.proofs.alike_along.Tie as tie
 
@@ -21,5 +21,5 @@ decreases-loop q wanted table n keys index from at₀ at = at
 pub alike-along-spec : {M : Type 1} → statement M
 alike-along-spec =
     tie.close
-    (tie.spec invariant-loop decreases-loop (λ c κs. search chainLaws) (λ c. search chainLaws) (λ c. search chainLaws) (λ c κs. search chainLaws)
-    (λ c. search chainLaws) (λ c κs. search chainLaws) (λ c. search chainLaws) (λ c. search chainLaws) (λ c. search chainLaws))
+    (tie.spec invariant-loop decreases-loop (λ c κs. search chain_laws) (λ c. search chain_laws) (λ c. search chain_laws) (λ c κs. search chain_laws)
+    (λ c. search chain_laws) (λ c κs. search chain_laws) (λ c. search chain_laws) (λ c. search chain_laws) (λ c. search chain_laws))

@@ -1,4 +1,4 @@
-use Rattle.explain_steps.proofs.FillLaws.{fillLaws, FilledSoFar}
+use Rattle.explain_steps.proofs.FillLaws.{fill_laws, FilledSoFar}
 use lib.ListN.{length}
 use Rattle.words.specs.Words.{rules_in}
 use Rattle.explain_steps.proofs.fill_back.Statement.{statement}
@@ -13,8 +13,8 @@ decreases-loop rules count table n k steps₀ at₀ done₀ steps at done = at
 pub fill-back-spec : {M : Type 1} → statement M
 fill-back-spec =
     tie.close
-    (tie.spec invariant-loop decreases-loop (λ c. search fillLaws) (λ c κs. search fillLaws) (λ c. search fillLaws) (λ c. search fillLaws)
-    (λ c. search fillLaws) (λ c. search fillLaws) (λ c κs. search fillLaws) (λ c. search fillLaws) (λ c. search fillLaws)
-    (λ c. search fillLaws) (λ c κs. search fillLaws) (λ c. search fillLaws) (λ c. search fillLaws) (λ c. search fillLaws)
-    (λ c. search fillLaws) (λ c. search fillLaws) (λ c. search fillLaws) (λ c. search fillLaws) (λ c κs. search fillLaws)
-    (λ c. search fillLaws) (λ c. search fillLaws))
+    (tie.spec invariant-loop decreases-loop (λ c. search fill_laws) (λ c κs. search fill_laws) (λ c. search fill_laws) (λ c. search fill_laws)
+    (λ c. search fill_laws) (λ c. search fill_laws) (λ c κs. search fill_laws) (λ c. search fill_laws) (λ c. search fill_laws)
+    (λ c. search fill_laws) (λ c κs. search fill_laws) (λ c. search fill_laws) (λ c. search fill_laws) (λ c. search fill_laws)
+    (λ c. search fill_laws) (λ c. search fill_laws) (λ c. search fill_laws) (λ c. search fill_laws) (λ c κs. search fill_laws)
+    (λ c. search fill_laws) (λ c. search fill_laws))

@@ -6,7 +6,7 @@ use Rattle.theory.specs.Qualified.{roles_of_atoms}
 use Rattle.theory.specs.Laws.Scans.{some_from}
 use Rattle.words.specs.Words.{word_atom}
 use Rattle.read_helpers.specs.InUse.{clashing}
-use Rattle.read_helpers.proofs.ClashLaws.{word_at, wordsLaws}
+use Rattle.read_helpers.proofs.ClashLaws.{word_at, words_laws}
 use Rattle.read_helpers.proofs.atoms_clash.Given as goal
 
 abbrev pub invariant-loop-i : goal.invariant-loop-i

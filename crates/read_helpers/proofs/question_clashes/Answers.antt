@@ -1,8 +1,8 @@
-use Rattle.read_helpers.proofs.ClashLaws.{questionLaws}
+use Rattle.read_helpers.proofs.ClashLaws.{question_laws}
 use Rattle.read_helpers.proofs.question_clashes.Goals as goal
 
 pub atoms_clash-requires : goal.atoms_clash-requires
-atoms_clash-requires c = search questionLaws
+atoms_clash-requires c = search question_laws
 
 pub returns : goal.returns
-returns c = search questionLaws
+returns c = search question_laws

@@ -6,7 +6,7 @@ use Rattle.theory.specs.Laws.Scans.{some_from}
 use Rattle.words.specs.Limits.{sheet_width, rule_bytes}
 use Rattle.sheets.specs.Reading.{rules_as_written}
 use Rattle.read_helpers.specs.InUse.{clashing}
-use Rattle.read_helpers.proofs.ClashLaws.{record_at, rulesLaws}
+use Rattle.read_helpers.proofs.ClashLaws.{record_at, rules_laws}
 use Rattle.read_helpers.proofs.rules_clash.Given as goal
 
 abbrev pub invariant-loop-i : goal.invariant-loop-i

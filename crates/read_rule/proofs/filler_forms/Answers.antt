@@ -1,11 +1,11 @@
-use Rattle.read_rule.proofs.RuleLaws.{formLaws}
+use Rattle.read_rule.proofs.RuleLaws.{form_laws}
 use Rattle.read_rule.proofs.filler_forms.Goals as goal
 
 pub returns-in-0-right : goal.returns-in-0-right
-returns-in-0-right c = search formLaws
+returns-in-0-right c = search form_laws
 
 pub returns-in_default-right : goal.returns-in_default-right
-returns-in_default-right c = search formLaws
+returns-in_default-right c = search form_laws
 
 pub returns-in_default : goal.returns-in_default
-returns-in_default c = search formLaws
+returns-in_default c = search form_laws

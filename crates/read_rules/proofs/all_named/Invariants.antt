@@ -6,7 +6,6 @@ use Rattle.words.specs.Limits.{rule_bytes}
 use Rattle.sheets.specs.Format.{rule_records}
 use Rattle.sheets.specs.Tests.{passes2}
 use Rattle.read_rules.specs.Filling.{rest}
-use Rattle.read_rules.proofs.RuleSheetLaws.{allLaws}
 use Rattle.read_rules.proofs.all_named.Given as goal
 
 abbrev pub invariant-loop-i : goal.invariant-loop-i

@@ -4,7 +4,6 @@ use lib.ListN.{length}
 use Rattle.words.specs.Limits.{rule_bytes}
 use Rattle.sheets.specs.Format.{rule_records, pairs_in}
 use Rattle.read_rules.specs.Filling.{rest}
-use Rattle.read_rules.proofs.RuleSheetLaws.{countLaws}
 use Rattle.read_rules.proofs.count_pairs.Given as goal
 
 abbrev pub invariant-loop-i : goal.invariant-loop-i

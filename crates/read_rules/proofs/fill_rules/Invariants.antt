@@ -3,7 +3,6 @@ use Prim.Native.Nat.{◌-◌, ◌/◌}
 use lib.ListN.{length}
 use Rattle.words.specs.Limits.{rule_bytes}
 use Rattle.read_rules.specs.Filling.{FillingRules}
-use Rattle.read_rules.proofs.FillLaws.{fillLaws}
 use Rattle.read_rules.proofs.fill_rules.Given as goal
 
 abbrev pub invariant-loop-i : goal.invariant-loop-i

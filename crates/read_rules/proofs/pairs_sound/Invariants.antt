@@ -6,7 +6,6 @@ use Rattle.words.specs.Limits.{rule_bytes}
 use Rattle.sheets.specs.Format.{rule_records}
 use Rattle.sheets.specs.Tests.{pairs_sound}
 use Rattle.read_rules.specs.Filling.{rest}
-use Rattle.read_rules.proofs.RuleSheetLaws.{soundLaws}
 use Rattle.read_rules.proofs.pairs_sound.Given as goal
 
 abbrev pub invariant-loop-i : goal.invariant-loop-i

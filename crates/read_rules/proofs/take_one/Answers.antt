@@ -1,17 +1,17 @@
-use Rattle.read_rules.proofs.FillLaws.{fillLaws}
+use Rattle.read_rules.proofs.FillLaws.{fill_laws}
 use Rattle.read_rules.proofs.take_one.Goals as goal
 
 pub rule_as_read-requires : goal.rule_as_read-requires
-rule_as_read-requires c = search fillLaws
+rule_as_read-requires c = search fill_laws
 
 pub offset_bounds-table-count : goal.offset_bounds-table-count
-offset_bounds-table-count c = search fillLaws
+offset_bounds-table-count c = search fill_laws
 
 pub bounds-table-count : goal.bounds-table-count
-bounds-table-count c = search fillLaws
+bounds-table-count c = search fill_laws
 
 pub shape_of-table : goal.shape_of-table
-shape_of-table c = search fillLaws
+shape_of-table c = search fill_laws
 
 pub returns : goal.returns
-returns c = search fillLaws
+returns c = search fill_laws

@@ -152,7 +152,7 @@ module _ (first second size most : ℕ) (s : List ℕ) (sound : Bool) where
       unfolding number_of first_refusal
       no_refusal t = rw (eq-eqb (length s % size) 0 even, le-ltb most (length s) (omega (arith, leb-true limit most l)), t)
 
-pub ruleset rowLaws = (
+pub ruleset row_laws = (
   not-true,
   not-false,
   nth,

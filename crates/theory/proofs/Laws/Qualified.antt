@@ -17,7 +17,8 @@ use Rattle.theory.proofs.Laws.Chase.{answer_more}
 use Rattle.theory.proofs.Laws.Agreement.{readers_agree, by_depth}
 use Rattle.theory.proofs.Laws.QualifiedPlaces.{read_at, placed_written, plain_read, plain_helpers}
 use Rattle.theory.proofs.Laws.QualifiedWritten.{map_roles, concludes_more, written_in_read}
-use Rattle.theory.proofs.Laws.QualifiedRead.{free_part, Belongs, read_in_written_by, read_in_written}
+use Rattle.theory.proofs.Laws.QualifiedRead.{free_part, free_written, read_in_written}
+use Rattle.theory.proofs.Laws.QualifiedReadBy.{Belongs, read_in_written_by}
 
 -- what the theorem asks: helpers differ (few-helpers-distinct), and none stands in a written rule, the question or a fact (refusal 18)
 pub record Apart (ws : List WrittenRule) (q : Query) (facts : List Fact) : Type 0 where
@@ -51,7 +52,7 @@ module _ {ws : List WrittenRule} {q : Query} {facts : List Fact} (apart : Apart 
       → Answer (RoundAsWritten ws facts n) q tuple
   answer_in_round n =
       answer_free ws q (Round (rules_read ws) facts n) (RoundAsWritten ws facts n) apart.clean_question
-      (read_in_written ws facts apart.helpers_differ apart.clean_rules apart.clean_facts n)
+      (λ a free h. free_written ws facts n a free (read_in_written ws facts apart.helpers_differ apart.clean_rules apart.clean_facts n a h))
 
   -- and so it is where only some rules conclude
   pub answer_in_round_by : (only : ℕ → Type 0) (only' : PlacedRule → Type 0) → Belongs only only' ws → (n : ℕ) (tuple : List ℕ)
@@ -126,9 +127,9 @@ module _ (rules : List Rule) where
     pub plain_as_before : (n : ℕ) (a : Atom Thing) → RoundAsWritten (map plain rules) facts n a ↔ Round rules facts n a
     plain_as_before n a = (
       plain_in_read n a,
-      λ h. read_in_written as_written facts (subst Unrepeated (sym (plain_helpers rules)) tt) (no_helper (roles_of_rules as_written))
-          (no_helper (roles_of_atoms facts)) n a (no_helper (roles_of_atom a))
-          (subst (λ rs. Round rs facts n a) (sym (plain_read rules)) h),
+      λ h. free_written as_written facts n a (no_helper (roles_of_atom a))
+          (read_in_written as_written facts (subst Unrepeated (sym (plain_helpers rules)) tt) (no_helper (roles_of_rules as_written))
+          (no_helper (roles_of_atoms facts)) n a (subst (λ rs. Round rs facts n a) (sym (plain_read rules)) h)),
     )
 
     -- and so is what the second reader finds

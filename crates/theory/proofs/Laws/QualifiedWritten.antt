@@ -1,7 +1,7 @@
 -- 02, T-04: what is held in a round over rules as written is held, over the rules as read, after twice as many rounds: one for the helper,
 -- one for role and filler.
-use Rattle.std.specs.Prelude.{◌≡◌, refl, ℕ, zero, suc, ◌+◌, Bool, true, false, not, List, [], ◌∷◌}
-use Rattle.std.proofs.Common.{sym, ap, ◌∙◌, subst, inl, inr, arith}
+use Rattle.std.specs.Prelude.{◌≡◌, refl, ℕ, zero, suc, ◌+◌, ◌≤◌, Bool, true, false, not, List, [], ◌∷◌}
+use Rattle.std.proofs.Common.{sym, ap, ◌∙◌, subst, inl, inr, eq-or-lt_of_le, le_of_suc-le-suc, arith}
 use mathlib.Core.List.Memᴰ
 use Rattle.theory.specs.Lists.{◌∈◌}
 use Rattle.theory.specs.Syntax.{Atom, concept, role, Basic, named, has, has_inverse, Rule, concept_inclusion, role_inclusion, Fact}
@@ -90,9 +90,18 @@ pub concludes_along : (H : Held) (i j : ℕ) (r s : Rule) (a : Atom Thing) → i
 concludes_along H i j r s a d e c = subst (λ (k : ℕ). Concludes H k s a) d (subst (λ t. Concludes H i t a) e c)
 
 module _ (ws : List WrittenRule) (facts : List Fact) where
+  -- what is held in a round is held in every later one
+  pub written_later : (n m : ℕ) → n ≤ m → (a : Atom Thing) → RoundAsWritten ws facts n a → RoundAsWritten ws facts m a
+  written_later n zero l a h = let e : n ≡ zero = omega arith in subst (λ k. RoundAsWritten ws facts k a) e h
+  written_later n (suc m) l a h =
+      elim (eq-or-lt_of_le l) [
+        | inl e ↦ subst (λ k. RoundAsWritten ws facts k a) e h
+        | inr k ↦ inl (written_later n m (le_of_suc-le-suc k) a h)
+      ]
+
   -- ---- every atom as written is there as read, after two rounds for each
 
-  abbrev AsRead : ℕ → Held
+  abbrev pub AsRead : ℕ → Held
   AsRead n = Round (rules_read ws) facts n
 
   -- what one written rule concludes

@@ -299,4 +299,4 @@ module _ {X Y : Type 0} (test : X → Y → Bool) where
 pub ruleset scans = (some_later, some_found, some_none, all_later, all_fails, all_passed, total_later, total_done)
 
 -- with it, for loops whose outcome is said of all numbers below n
-pub ruleset numberScans = (scans, some_begins)
+pub ruleset number_scans = (scans, some_begins)

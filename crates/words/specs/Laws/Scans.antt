@@ -64,4 +64,4 @@ module _ (q : QueryWords) (l : length q.atoms ≡ 8) (g : q.size ≤ 8) where
       e ∙ total_records word_atom q.atoms q.size (omega arith) (λ a. count p (args a))
       ∙ count_places p (map word_atom (take q.size q.atoms))
 
-pub ruleset queryScans = (scans, some_answer, more_answers, all_answers, some_atom, all_atoms, counted_places)
+pub ruleset query_scans = (scans, some_answer, more_answers, all_answers, some_atom, all_atoms, counted_places)

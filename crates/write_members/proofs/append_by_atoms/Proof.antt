@@ -5,7 +5,7 @@ use lib.ListN.{length}
 use Rattle.theory.specs.Lists.{numbers}
 use Rattle.theory.specs.Writing.{by_rule, appended_all}
 use Rattle.words.specs.Words.{query_of, rules_in, union_in}
-use Rattle.write_members.proofs.LoopLaws.{AtomsLeft, atomLoop}
+use Rattle.write_members.proofs.LoopLaws.{AtomsLeft, atom_loop}
 use Rattle.write_members.proofs.append_by_atoms.Statement.{statement}
 use Rattle.write_members.proofs.append_by_atoms.Tie as tie
 
@@ -23,6 +23,6 @@ decreases-loop rules count parent q table₀ n keys₀ size₀ members₀ i₀ t
 pub append-by-atoms-spec : {M : Type 1} → statement M
 append-by-atoms-spec =
     tie.close
-    (tie.spec invariant-loop decreases-loop (λ c. search atomLoop) (λ c κs. search atomLoop) (λ c. search atomLoop) (λ c. search atomLoop)
-    (λ c. search atomLoop) (λ c. search atomLoop) (λ c. search atomLoop) (λ c. search atomLoop) (λ c. search atomLoop)
-    (λ c. search atomLoop) (λ c. search atomLoop))
+    (tie.spec invariant-loop decreases-loop (λ c. search atom_loop) (λ c κs. search atom_loop) (λ c. search atom_loop) (λ c. search atom_loop)
+    (λ c. search atom_loop) (λ c. search atom_loop) (λ c. search atom_loop) (λ c. search atom_loop) (λ c. search atom_loop)
+    (λ c. search atom_loop) (λ c. search atom_loop))

@@ -5,7 +5,7 @@ use lib.ListN.{length}
 use Rattle.theory.specs.Lists.{numbers}
 use Rattle.theory.specs.Writing.{by_merge, appended_all}
 use Rattle.words.specs.Words.{query_of, union_in}
-use Rattle.write_members.proofs.LoopLaws.{PairsLeft, pairLoop}
+use Rattle.write_members.proofs.LoopLaws.{PairsLeft, pair_loop}
 use Rattle.write_members.proofs.append_by_merges.Statement.{statement}
 use Rattle.write_members.proofs.append_by_merges.Tie as tie
 
@@ -22,6 +22,6 @@ decreases-loop parent q table₀ n keys₀ size₀ members₀ i₀ table keys me
 pub append-by-merges-spec : {M : Type 1} → statement M
 append-by-merges-spec =
     tie.close
-    (tie.spec invariant-loop decreases-loop (λ c. search pairLoop) (λ c κs. search pairLoop) (λ c. search pairLoop) (λ c. search pairLoop)
-    (λ c. search pairLoop) (λ c. search pairLoop) (λ c. search pairLoop) (λ c. search pairLoop) (λ c. search pairLoop)
-    (λ c. search pairLoop) (λ c. search pairLoop))
+    (tie.spec invariant-loop decreases-loop (λ c. search pair_loop) (λ c κs. search pair_loop) (λ c. search pair_loop) (λ c. search pair_loop)
+    (λ c. search pair_loop) (λ c. search pair_loop) (λ c. search pair_loop) (λ c. search pair_loop) (λ c. search pair_loop)
+    (λ c. search pair_loop) (λ c. search pair_loop))

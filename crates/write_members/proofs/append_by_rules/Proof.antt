@@ -5,7 +5,7 @@ use lib.ListN.{length}
 use Rattle.theory.specs.Lists.{numbers}
 use Rattle.theory.specs.Writing.{by_rule, appended_all}
 use Rattle.words.specs.Words.{query_of, rules_in, union_in}
-use Rattle.write_members.proofs.LoopLaws.{RulesLeft, ruleLoop}
+use Rattle.write_members.proofs.LoopLaws.{RulesLeft, rule_loop}
 use Rattle.write_members.proofs.append_by_rules.Statement.{statement}
 use Rattle.write_members.proofs.append_by_rules.Tie as tie
 
@@ -21,6 +21,6 @@ decreases-loop rules count parent q i table₀ n keys₀ members₀ k₀ table k
 pub append-by-rules-spec : {M : Type 1} → statement M
 append-by-rules-spec =
     tie.close
-    (tie.spec invariant-loop decreases-loop (λ c. search ruleLoop) (λ c κs. search ruleLoop) (λ c. search ruleLoop) (λ c. search ruleLoop)
-    (λ c. search ruleLoop) (λ c. search ruleLoop) (λ c. search ruleLoop) (λ c. search ruleLoop) (λ c. search ruleLoop)
-    (λ c. search ruleLoop) (λ c. search ruleLoop))
+    (tie.spec invariant-loop decreases-loop (λ c. search rule_loop) (λ c κs. search rule_loop) (λ c. search rule_loop) (λ c. search rule_loop)
+    (λ c. search rule_loop) (λ c. search rule_loop) (λ c. search rule_loop) (λ c. search rule_loop) (λ c. search rule_loop)
+    (λ c. search rule_loop) (λ c. search rule_loop))

@@ -5,7 +5,7 @@ use lib.ListN.{length}
 use Rattle.theory.specs.Lists.{numbers}
 use Rattle.theory.specs.Writing.{by_merge, appended_all}
 use Rattle.words.specs.Words.{query_of, union_in}
-use Rattle.write_members.proofs.LoopLaws.{LaterLeft, laterLoop}
+use Rattle.write_members.proofs.LoopLaws.{LaterLeft, later_loop}
 use Rattle.write_members.proofs.append_merged.Statement.{statement}
 use Rattle.write_members.proofs.append_merged.Tie as tie
 
@@ -21,6 +21,6 @@ decreases-loop parent q i table₀ n keys₀ size₀ members₀ j₀ table keys 
 pub append-merged-spec : {M : Type 1} → statement M
 append-merged-spec =
     tie.close
-    (tie.spec invariant-loop decreases-loop (λ c. search laterLoop) (λ c. search laterLoop) (λ c κs. search laterLoop) (λ c κs. search laterLoop)
-    (λ c κs. search laterLoop) (λ c. search laterLoop) (λ c. search laterLoop) (λ c. search laterLoop) (λ c. search laterLoop)
-    (λ c. search laterLoop) (λ c. search laterLoop) (λ c. search laterLoop) (λ c. search laterLoop) (λ c. search laterLoop))
+    (tie.spec invariant-loop decreases-loop (λ c. search later_loop) (λ c. search later_loop) (λ c κs. search later_loop) (λ c κs. search later_loop)
+    (λ c κs. search later_loop) (λ c. search later_loop) (λ c. search later_loop) (λ c. search later_loop) (λ c. search later_loop)
+    (λ c. search later_loop) (λ c. search later_loop) (λ c. search later_loop) (λ c. search later_loop) (λ c. search later_loop))

@@ -4,7 +4,7 @@ use lib.ListN.{length}
 use Rattle.words.specs.Limits.{most_members}
 use Rattle.words.specs.Words.{rules_in}
 use Rattle.words.specs.Rows.{member_in}
-use Rattle.write_members.proofs.TakeLaws.{MembersTaken, memberLoop}
+use Rattle.write_members.proofs.TakeLaws.{MembersTaken, member_loop}
 use Rattle.write_members.proofs.take_members.Statement.{statement}
 use Rattle.write_members.proofs.take_members.Tie as tie
 
@@ -19,6 +19,6 @@ decreases-loop rules count table₀ keys₀ members₀ k₀ table keys members k
 pub take-members-spec : {M : Type 1} → statement M
 take-members-spec =
     tie.close
-    (tie.spec invariant-loop decreases-loop (λ c. search memberLoop) (λ c κs. search memberLoop) (λ c. search memberLoop) (λ c. search memberLoop)
-    (λ c. search memberLoop) (λ c. search memberLoop) (λ c. search memberLoop) (λ c. search memberLoop) (λ c. search memberLoop)
-    (λ c. search memberLoop) (λ c. search memberLoop))
+    (tie.spec invariant-loop decreases-loop (λ c. search member_loop) (λ c κs. search member_loop) (λ c. search member_loop) (λ c. search member_loop)
+    (λ c. search member_loop) (λ c. search member_loop) (λ c. search member_loop) (λ c. search member_loop) (λ c. search member_loop)
+    (λ c. search member_loop) (λ c. search member_loop))

@@ -5,7 +5,7 @@ use lib.ListN.{length}
 use Rattle.words.specs.Limits.{count_bytes}
 use Rattle.write_sheet.specs.PutAt.{members_bytes}
 use Rattle.write_sheet.proofs.PutLaws.{Remaining}
-use Rattle.write_sheet.proofs.MemberLaws.{members_from, loopLaws}
+use Rattle.write_sheet.proofs.MemberLaws.{members_from, loop_laws}
 use Rattle.write_sheet.proofs.put_members.Statement.{statement}
 use Rattle.write_sheet.proofs.put_members.Tie as tie
 
@@ -20,5 +20,5 @@ decreases-loop table n sheet₀ at₀ j₀ sheet at j = n - j
 pub put-members-spec : {M : Type 1} → statement M
 put-members-spec =
     tie.close
-    (tie.spec invariant-loop decreases-loop (λ c. search loopLaws) (λ c κs. search loopLaws) (λ c. search loopLaws) (λ c. search loopLaws)
-    (λ c. search loopLaws) (λ c. search loopLaws) (λ c. search loopLaws))
+    (tie.spec invariant-loop decreases-loop (λ c. search loop_laws) (λ c κs. search loop_laws) (λ c. search loop_laws) (λ c. search loop_laws)
+    (λ c. search loop_laws) (λ c. search loop_laws) (λ c. search loop_laws))

@@ -6,7 +6,7 @@ use Rattle.words.specs.Limits.{sheet_width, count_bytes, step_bytes, most_questi
 use Rattle.words.specs.Words.{union_in}
 use Rattle.sheets.specs.Packing.{pack_union}
 use Rattle.write_sheet.proofs.MemberLaws.{members_from}
-use Rattle.write_sheet.proofs.UnionLaws.{lengthLaws}
+use Rattle.write_sheet.proofs.UnionLaws.{length_laws}
 use Rattle.write_sheet.proofs.union_length.Statement.{statement}
 use Rattle.write_sheet.proofs.union_length.Tie as tie
 
@@ -21,5 +21,5 @@ decreases-loop table n total₀ j₀ total j = n - j
 pub union-length-spec : {M : Type 1} → statement M
 union-length-spec =
     tie.close
-    (tie.spec invariant-loop decreases-loop (λ c. search lengthLaws) (λ c κs. search lengthLaws) (λ c κs. search lengthLaws) (λ c. search lengthLaws)
-    (λ c. search lengthLaws) (λ c. search lengthLaws) (λ c. search lengthLaws) (λ c. search lengthLaws) (λ c. search lengthLaws))
+    (tie.spec invariant-loop decreases-loop (λ c. search length_laws) (λ c κs. search length_laws) (λ c κs. search length_laws) (λ c. search length_laws)
+    (λ c. search length_laws) (λ c. search length_laws) (λ c. search length_laws) (λ c. search length_laws) (λ c. search length_laws))

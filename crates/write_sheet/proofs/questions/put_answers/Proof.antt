@@ -6,7 +6,7 @@ use Rattle.words.specs.Limits.{sheet_width, answer_bytes}
 use Rattle.words.specs.Words.{word_term}
 use Rattle.write_sheet.specs.PutAt.{answers_bytes}
 use Rattle.write_sheet.proofs.PutLaws.{Remaining}
-use Rattle.write_sheet.proofs.QuestionLaws.{answers_from, recordLaws}
+use Rattle.write_sheet.proofs.QuestionLaws.{answers_from, record_laws}
 use Rattle.write_sheet.proofs.questions.put_answers.Statement.{statement}
 use Rattle.write_sheet.proofs.questions.put_answers.Tie as tie
 
@@ -22,6 +22,6 @@ decreases-loop sheet₀ at n answers i₀ sheet i = n - i
 pub put-answers-spec : {M : Type 1} → statement M
 put-answers-spec =
     tie.close
-    (tie.spec invariant-loop decreases-loop (λ c. search recordLaws) (λ c. search recordLaws) (λ c. search recordLaws) (λ c. search recordLaws)
-    (λ c. search recordLaws) (λ c κs. search recordLaws) (λ c. search recordLaws) (λ c. search recordLaws) (λ c. search recordLaws)
-    (λ c. search recordLaws) (λ c. search recordLaws))
+    (tie.spec invariant-loop decreases-loop (λ c. search record_laws) (λ c. search record_laws) (λ c. search record_laws) (λ c. search record_laws)
+    (λ c. search record_laws) (λ c κs. search record_laws) (λ c. search record_laws) (λ c. search record_laws) (λ c. search record_laws)
+    (λ c. search record_laws) (λ c. search record_laws))

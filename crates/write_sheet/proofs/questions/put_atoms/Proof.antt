@@ -6,7 +6,7 @@ use Rattle.words.specs.Limits.{sheet_width, record_bytes}
 use Rattle.words.specs.Words.{word_atom}
 use Rattle.write_sheet.specs.PutAt.{atoms_bytes}
 use Rattle.write_sheet.proofs.PutLaws.{Remaining}
-use Rattle.write_sheet.proofs.QuestionLaws.{atoms_from, recordLaws}
+use Rattle.write_sheet.proofs.QuestionLaws.{atoms_from, record_laws}
 use Rattle.write_sheet.proofs.questions.put_atoms.Statement.{statement}
 use Rattle.write_sheet.proofs.questions.put_atoms.Tie as tie
 
@@ -22,6 +22,6 @@ decreases-loop sheet₀ at n atoms i₀ sheet i = n - i
 pub put-atoms-spec : {M : Type 1} → statement M
 put-atoms-spec =
     tie.close
-    (tie.spec invariant-loop decreases-loop (λ c. search recordLaws) (λ c. search recordLaws) (λ c. search recordLaws) (λ c. search recordLaws)
-    (λ c. search recordLaws) (λ c κs. search recordLaws) (λ c. search recordLaws) (λ c. search recordLaws) (λ c. search recordLaws)
-    (λ c. search recordLaws) (λ c. search recordLaws))
+    (tie.spec invariant-loop decreases-loop (λ c. search record_laws) (λ c. search record_laws) (λ c. search record_laws) (λ c. search record_laws)
+    (λ c. search record_laws) (λ c κs. search record_laws) (λ c. search record_laws) (λ c. search record_laws) (λ c. search record_laws)
+    (λ c. search record_laws) (λ c. search record_laws))

@@ -1,0 +1,17 @@
+use mathlib.Core.Path.{◌≡◌}
+use Prim.Native.Nat.{◌-◌, ◌≤◌}
+use Rattle.theory.specs.Lists.{any}
+use Rattle.theory.specs.Syntax.{on_atoms}
+use Rattle.theory.specs.Laws.Scans.{all_from, test_at}
+use Rattle.words.specs.Words.{query_of, word_atom}
+use Rattle.query_partial.specs.Partial.{may_become}
+use Rattle.query_partial.proofs.all_go.Given as goal
+
+abbrev pub invariant-loop-i : goal.invariant-loop-i
+invariant-loop-i l =
+    (l.i ≤ l.n)
+    × (all_from (test_at (λ a. any (λ b. on_atoms (may_become l.m) a b) (query_of l.q).atoms) word_atom l.atoms) l.i l.n
+    ≡ all_from (test_at (λ a. any (λ b. on_atoms (may_become l.m) a b) (query_of l.q).atoms) word_atom l.atoms) 0 l.n)
+
+abbrev pub decreases-loop-i : goal.decreases-loop-i
+decreases-loop-i l = l.n - l.i

@@ -1,0 +1,16 @@
+use mathlib.Core.Path.{◌≡◌}
+use Prim.Native.Nat.{◌-◌, ◌≤◌}
+use lib.ListN.{get_or}
+use Rattle.theory.specs.Laws.Scans.{all_from}
+use Rattle.words.specs.Words.{word_term}
+use Rattle.query_partial.specs.Partial.{may_become}
+use Rattle.query_partial.proofs.answers_go.Given as goal
+
+abbrev pub invariant-loop-i : goal.invariant-loop-i
+invariant-loop-i l =
+    (l.i ≤ l.n)
+    × (all_from (λ k. may_become l.m (word_term (get_or l.from k 0)) (word_term (get_or l.to k 0))) l.i l.n
+    ≡ all_from (λ k. may_become l.m (word_term (get_or l.from k 0)) (word_term (get_or l.to k 0))) 0 l.n)
+
+abbrev pub decreases-loop-i : goal.decreases-loop-i
+decreases-loop-i l = l.n - l.i

@@ -1,0 +1,16 @@
+use mathlib.Core.Path.{◌≡◌}
+use Prim.Native.Nat.{◌-◌, ◌≤◌}
+use Rattle.theory.specs.Syntax.{on_atoms}
+use Rattle.theory.specs.Laws.Scans.{some_from, test_at}
+use Rattle.words.specs.Words.{word_atom}
+use Rattle.query_partial.specs.Partial.{may_become}
+use Rattle.query_partial.proofs.goes_somewhere.Given as goal
+
+abbrev pub invariant-loop-i : goal.invariant-loop-i
+invariant-loop-i l =
+    (l.i ≤ l.n)
+    × (some_from (test_at (λ b. on_atoms (may_become l.m) (word_atom l.a) b) word_atom l.atoms) l.i l.n
+    ≡ some_from (test_at (λ b. on_atoms (may_become l.m) (word_atom l.a) b) word_atom l.atoms) 0 l.n)
+
+abbrev pub decreases-loop-i : goal.decreases-loop-i
+decreases-loop-i l = l.n - l.i

@@ -1,6 +1,0 @@
-use Rattle.query_partial.proofs.PartialLaws.{atomLaws}
-use Rattle.query_partial.proofs.may_atom.Statement.{statement}
-use Rattle.query_partial.proofs.may_atom.Tie as tie
-
-pub may-atom-spec : {M : Type 1} → statement M
-may-atom-spec = tie.close (tie.spec (λ c. search atomLaws) (λ c. search atomLaws) (λ c. search atomLaws) (λ c. search atomLaws))

@@ -1,9 +1,0 @@
-use Rattle.query_partial.proofs.PartialLaws.{termLaws}
-use Rattle.query_partial.proofs.may_be.Statement.{statement}
-use Rattle.query_partial.proofs.may_be.Tie as tie
-
-pub may-be-spec : {M : Type 1} → statement M
-may-be-spec =
-    tie.close
-    (tie.spec (λ c. search termLaws) (λ c. search termLaws) (λ c. search termLaws) (λ c. search termLaws) (λ c. search termLaws)
-    (λ c. search termLaws))

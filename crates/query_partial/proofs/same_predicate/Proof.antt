@@ -1,9 +1,0 @@
-use Rattle.query_partial.proofs.PartialLaws.{atomLaws}
-use Rattle.query_partial.proofs.same_predicate.Statement.{statement}
-use Rattle.query_partial.proofs.same_predicate.Tie as tie
-
-pub same-predicate-spec : {M : Type 1} → statement M
-same-predicate-spec =
-    tie.close
-    (tie.spec (λ c. search atomLaws) (λ c. search atomLaws) (λ c. search atomLaws) (λ c. search atomLaws) (λ c. search atomLaws)
-    (λ c. search atomLaws))

@@ -1,9 +1,0 @@
-use Rattle.query_substitution.proofs.SubstitutionLaws.{atomLaws}
-use Rattle.query_substitution.proofs.Substitution.apply_atom.Statement.{statement}
-use Rattle.query_substitution.proofs.Substitution.apply_atom.Tie as tie
-
-pub apply-atom-spec : {M : Type 1} → statement M
-apply-atom-spec =
-    tie.close
-    (tie.spec (λ c. search atomLaws) (λ c. search atomLaws) (λ c. search atomLaws) (λ c. search atomLaws) (λ c. search atomLaws)
-    (λ c. search atomLaws) (λ c. search atomLaws) (λ c. search atomLaws) (λ c. search atomLaws) (λ c. search atomLaws))

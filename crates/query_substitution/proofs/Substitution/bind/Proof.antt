@@ -1,8 +1,0 @@
-use Rattle.query_substitution.proofs.SubstitutionLaws.{joinLaws}
-use Rattle.query_substitution.proofs.Substitution.bind.Statement.{statement}
-use Rattle.query_substitution.proofs.Substitution.bind.Tie as tie
-
-pub bind-spec : {M : Type 1} → statement M
-bind-spec =
-    tie.close
-    (tie.spec (λ c. search joinLaws) (λ c. search joinLaws) (λ c. search joinLaws) (λ c. search joinLaws) (λ c. search joinLaws))

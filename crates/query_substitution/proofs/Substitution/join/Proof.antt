@@ -1,9 +1,0 @@
-use Rattle.query_substitution.proofs.SubstitutionLaws.{joinLaws}
-use Rattle.query_substitution.proofs.Substitution.join.Statement.{statement}
-use Rattle.query_substitution.proofs.Substitution.join.Tie as tie
-
-pub join-spec : {M : Type 1} → statement M
-join-spec =
-    tie.close
-    (tie.spec (λ c. search joinLaws) (λ c. search joinLaws) (λ c. search joinLaws) (λ c. search joinLaws) (λ c. search joinLaws)
-    (λ c. search joinLaws) (λ c. search joinLaws) (λ c. search joinLaws) (λ c. search joinLaws))

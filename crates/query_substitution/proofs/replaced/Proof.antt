@@ -1,6 +1,0 @@
-use Rattle.query_substitution.proofs.SubstitutionLaws.{termLaws}
-use Rattle.query_substitution.proofs.replaced.Statement.{statement}
-use Rattle.query_substitution.proofs.replaced.Tie as tie
-
-pub replaced-spec : {M : Type 1} → statement M
-replaced-spec = tie.close (tie.spec (λ c. search termLaws) (λ c. search termLaws))

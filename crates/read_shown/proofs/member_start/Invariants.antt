@@ -1,0 +1,13 @@
+-- The loop's invariant: `at` is where member j begins.
+use mathlib.Core.Path.{◌≡◌}
+use Prim.Native.Nat.{◌≤◌, ◌-◌}
+use Rattle.words.specs.Limits.{sheet_width}
+use Rattle.sheets.specs.Format.{member_start}
+use Rattle.read_shown.proofs.ShownLaws.{laws}
+use Rattle.read_shown.proofs.member_start.Given as goal
+
+abbrev pub invariant-loop-j : goal.invariant-loop-j
+invariant-loop-j l = (l.j ≤ l.m) × (l.at ≡ member_start sheet_width l.s l.j)
+
+abbrev pub decreases-loop-j : goal.decreases-loop-j
+decreases-loop-j l = l.m - l.j
