@@ -20,10 +20,8 @@ fn rule_byte(i: usize) -> u8 {
 fn fill(sheet: &mut [u8])
     ensures { length sheet.new ≡ length sheet.old }
 {
-    let mut i: usize = 0;
-    while i < sheet.len() {
-        sheet[i] = rule_byte(i);
-        i += 1;
+    for (i, x) in sheet.iter_mut().enumerate() {
+        *x = rule_byte(i);
     }
 }
 
@@ -34,8 +32,7 @@ fn many_rules(rt: &impl Print, question: &[u8], union: &[u8], facts: &[u8]) -> i
     drawn(rt, b"K9, 513 rules", &over, question, union, facts)?;
     let mut full = [0u8; 2048];
     fill(&mut full);
-    drawn(rt, b"K9, 512 rules", &full, question, union, facts)?;
-    Ok(())
+    drawn(rt, b"K9, 512 rules", &full, question, union, facts)
 }
 
 // The cards.
@@ -61,6 +58,5 @@ pub fn run(rt: &impl Print) -> io::Result<()> {
         \x00\x00\x00\x00\x11\x00\x00\x00\x80\x00\x00\x02\x00\x00\
         \x40\x00\x00\x00\x11\x00\x00\x00\x00\x08\x00\x00\x00\x00";
     drawn(rt, b"K11", rule, question, other, facts)?;
-    drawn(rt, b"K12", rule, question, union, b"")?;
-    Ok(())
+    drawn(rt, b"K12", rule, question, union, b"")
 }

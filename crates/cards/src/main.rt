@@ -9,6 +9,5 @@ use std::io;
 
 fn main(rt: HostRuntime) -> io::Result<()> {
     k1::run(&rt)?;
-    ours::run(&rt)?;
-    Ok(())
+    ours::run(&rt)
 }

@@ -22,6 +22,5 @@ pub fn run(rt: &impl Print) -> io::Result<()> {
     written(rt, b"K5, written", both, question_5)?;
     // answers x, y: P(x,y)
     let question_6 = b"\x21\x00\x00\x00\x00\x00\x01\x80\x40\x00\x00\x00\x01";
-    written(rt, b"K6, written", every, question_6)?;
-    Ok(())
+    written(rt, b"K6, written", every, question_6)
 }

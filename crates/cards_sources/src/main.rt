@@ -11,6 +11,5 @@ use std::io;
 fn main(rt: HostRuntime) -> io::Result<()> {
     source003::run(&rt)?;
     source004::run(&rt)?;
-    traps::run(&rt)?;
-    Ok(())
+    traps::run(&rt)
 }

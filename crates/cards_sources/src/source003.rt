@@ -38,8 +38,7 @@ fn section_3_1(rt: &impl Print) -> io::Result<()> {
         question,
         open,
     )?;
-    written(rt, b"003, section 3.1, written", rules, question)?;
-    Ok(())
+    written(rt, b"003, section 3.1, written", rules, question)
 }
 
 // 003, example 1, its sheets record by record: in the union each line is a step and a question.
@@ -79,8 +78,7 @@ fn example_1(rt: &impl Print) -> io::Result<()> {
         question,
         open,
     )?;
-    written(rt, b"003, example 1, written", rules, question)?;
-    Ok(())
+    written(rt, b"003, example 1, written", rules, question)
 }
 
 // 003, example 3, first, its sheets record by record: in the union each line is a step and a question.
@@ -113,8 +111,7 @@ fn example_3(rt: &impl Print) -> io::Result<()> {
         question,
         open,
     )?;
-    written(rt, b"003, example 3, first, written", rules, question)?;
-    Ok(())
+    written(rt, b"003, example 3, first, written", rules, question)
 }
 
 // 003, example 3, second, its sheets record by record: in the union each line is a step and a question.
@@ -140,8 +137,7 @@ fn example_3_twice(rt: &impl Print) -> io::Result<()> {
         union,
         facts,
     )?;
-    written(rt, b"003, example 3, second, written", rules, question)?;
-    Ok(())
+    written(rt, b"003, example 3, second, written", rules, question)
 }
 
 // 003, section 2.4, its sheets record by record: in the union each line is a step and a question.
@@ -185,8 +181,7 @@ fn section_2_4(rt: &impl Print) -> io::Result<()> {
         question,
         open,
     )?;
-    written(rt, b"003, section 2.4, written", rules, question)?;
-    Ok(())
+    written(rt, b"003, section 2.4, written", rules, question)
 }
 
 // All of them.
@@ -195,6 +190,5 @@ pub fn run(rt: &impl Print) -> io::Result<()> {
     example_1(rt)?;
     example_3(rt)?;
     example_3_twice(rt)?;
-    section_2_4(rt)?;
-    Ok(())
+    section_2_4(rt)
 }

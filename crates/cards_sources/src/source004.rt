@@ -37,8 +37,7 @@ fn example_1(rt: &impl Print) -> io::Result<()> {
         question,
         open,
     )?;
-    written(rt, b"004, example 1, written", rules, question)?;
-    Ok(())
+    written(rt, b"004, example 1, written", rules, question)
 }
 
 // 004, example 1, longer, its sheets record by record: in the union each line is a step and a question.
@@ -78,8 +77,7 @@ fn example_1_longer(rt: &impl Print) -> io::Result<()> {
         question,
         open,
     )?;
-    written(rt, b"004, example 1, longer, written", rules, question)?;
-    Ok(())
+    written(rt, b"004, example 1, longer, written", rules, question)
 }
 
 // 004, example 2, its sheets record by record: in the union each line is a step and a question.
@@ -114,8 +112,7 @@ fn example_2(rt: &impl Print) -> io::Result<()> {
         question,
         open,
     )?;
-    written(rt, b"004, example 2, written", rules, question)?;
-    Ok(())
+    written(rt, b"004, example 2, written", rules, question)
 }
 
 // 004, example 2, longer, its sheets record by record: in the union each line is a step and a question.
@@ -159,8 +156,7 @@ fn example_2_longer(rt: &impl Print) -> io::Result<()> {
         question,
         open,
     )?;
-    written(rt, b"004, example 2, longer, written", rules, question)?;
-    Ok(())
+    written(rt, b"004, example 2, longer, written", rules, question)
 }
 
 // All of them.
@@ -168,6 +164,5 @@ pub fn run(rt: &impl Print) -> io::Result<()> {
     example_1(rt)?;
     example_1_longer(rt)?;
     example_2(rt)?;
-    example_2_longer(rt)?;
-    Ok(())
+    example_2_longer(rt)
 }

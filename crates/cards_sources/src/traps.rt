@@ -16,8 +16,7 @@ fn looped(rt: &impl Print) -> io::Result<()> {
     // A(5)
     let facts = b"\x00\x01\x00\x05\x00\x00";
     drawn(rt, b"loop, 1 member", rules, question, union, facts)?;
-    written(rt, b"loop, written", rules, question)?;
-    Ok(())
+    written(rt, b"loop, written", rules, question)
 }
 
 // zero bits, its sheets record by record: in the union each line is a step and a question.
@@ -41,13 +40,11 @@ fn zero_bits(rt: &impl Print) -> io::Result<()> {
     let open = b"\x00\x01\
         \x00\x00\x00\x00\x12\x00\x00\x01\x80\x40\x00\x02\x00\x00\x00\x04\x00\x02\x00\x00";
     checked(rt, b"zero bits, without the last", rules, question, open)?;
-    written(rt, b"zero bits, written", rules, question)?;
-    Ok(())
+    written(rt, b"zero bits, written", rules, question)
 }
 
 // All of them.
 pub fn run(rt: &impl Print) -> io::Result<()> {
     looped(rt)?;
-    zero_bits(rt)?;
-    Ok(())
+    zero_bits(rt)
 }

@@ -8,8 +8,8 @@ use mathlib.Core.Bool.{Bool, cond}
 use mathlib.Core.List.{List, [], ◌∷◌, ◌++◌, append_assoc, append-nil}
 use lib.Dec.{eqb}
 use lib.ListN.{length, take, drop, get_or, set, length-append, length-set, length-drop}
-use lib.Seq.{take-suc-set, take-length, take_all, length-take-le, take_at}
-use borrow.Rule.Slice.PartMut.{mid_of, post_of, put_mid}
+use lib.Seq.{take-suc-set, length-take-le, take_at}
+use borrow.Rule.Slice.PartMut.{post_of, put_mid}
 use borrow.Author.Rules.{rules}
 use borrow.Author.Tests.{ne_eqb}
 use mir.Syntax.{w64}

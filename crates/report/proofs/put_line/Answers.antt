@@ -1,7 +1,4 @@
-use Prim.Native.Nat.{◌+◌, ◌*◌, ◌≤◌}
-use lib.ListN.{length}
-use Rattle.promises.specs.Report.{line, objects_at}
-use Rattle.report.proofs.ReportLaws.{Left, laws}
+use Rattle.report.proofs.ReportLaws.{laws}
 use Rattle.report.proofs.put_line.Goals as goal
 
 pub loop-left-init : goal.loop-left-init

@@ -1,7 +1,7 @@
 use Prim.Native.Nat.{◌+◌, ◌*◌, ◌≤◌}
 use lib.ListN.{length}
 use Rattle.promises.specs.Report.{line, objects_at}
-use Rattle.report.proofs.ReportLaws.{Left, laws}
+use Rattle.report.proofs.ReportLaws.{Left}
 use Rattle.report.proofs.put_line.Given as goal
 
 -- what is left of the line would complete the text, and there is room for it

@@ -1,7 +1,4 @@
-use Prim.Native.Nat.{◌+◌, ◌*◌, ◌≤◌}
-use lib.ListN.{length}
-use Rattle.promises.specs.Report.{lines_at}
-use Rattle.report.proofs.ReportLaws.{Left, laws}
+use Rattle.report.proofs.ReportLaws.{laws}
 use Rattle.report.proofs.put_lines.Goals as goal
 
 pub loop-left-init : goal.loop-left-init

@@ -1,7 +1,7 @@
 use Prim.Native.Nat.{◌+◌, ◌*◌, ◌≤◌}
 use lib.ListN.{length}
 use Rattle.promises.specs.Report.{lines_at}
-use Rattle.report.proofs.ReportLaws.{Left, laws}
+use Rattle.report.proofs.ReportLaws.{Left}
 use Rattle.report.proofs.put_lines.Given as goal
 
 -- what is left of the lines would complete the text, and there is room for it

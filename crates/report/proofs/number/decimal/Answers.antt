@@ -1,4 +1,4 @@
-use Rattle.std.proofs.Common.{arith, ◌≤◌}
+use Rattle.std.proofs.Common.{arith}
 use Rattle.report.proofs.DigitLaws.{twenty_at_most, counted}
 use Rattle.report.proofs.number.decimal.Goals as goal
 

@@ -18,6 +18,6 @@ loop-i-preserved c =
       simp length-set l.invariant.0,
       omega arith,
       digits_step l.i a.k l.rest c.digit_code.result l.out c.loop-i-test.true l.invariant.1 (omega arith) c.digit_code.ensures
-      ∙ l.invariant.2,
+          ∙ l.invariant.2,
       drop-set-lt a.k l.out (l.i - 1) _ (omega arith) ∙ l.invariant.3,
     )
