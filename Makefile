@@ -6,18 +6,17 @@ SHELL := /bin/bash
 help:
 	@echo 'make run     the programs on the sample register (sample/): its union written, its answers drawn, and why one of them is there'
 	@echo 'make lib     target/lib: libtakwishan.a, takwishan.h, takwishan.pc, for C and Rust'
-	@echo 'make test    the gate: every proof from nothing, every must-fail edit, every test; 51 minutes on two cores'
+	@echo 'make test    the gate: every proof, every must-fail edit, every test (what passed before on this machine is proved no second time)'
 	@echo 'make quick   what changed since the last landing (origin/main, or BASE=..) and the crates above it'
 	@echo 'make trials  the library against a second implementation (SEED=5 CASES=200000)'
 	@echo 'make bench   how fast sheets are read, unions checked and written, and answers drawn (docs/BENCHMARKS.md)'
 	@echo
-	@echo 'All but help prove first what is not proved yet: about 4 minutes on two cores, the first time.'
+	@echo 'All but help prove first what is not proved yet, which takes long the first time.'
 
 # the programs read their files from the folder that they are run in; why 22 is on the list, and which rules put it there, is said by an
 # example of the wrapper, over the library
 run:
-	@tools/prove write_union
-	@tools/prove takwishan
+	@tools/program write_union takwishan
 	@tools/lib > /dev/null
 	@cd sample && ../target/bin/write_union | cmp - union.bin && echo 'the union that is written is union.bin'
 	@cd sample && ../target/bin/takwishan
@@ -42,6 +41,5 @@ trials:
 bench:
 	@tools/lib
 	@tools/prove bench_lib
-	@rt staticlib bench_lib > target/log/bench 2>&1 || { cat target/log/bench; exit 1; }
 	@cargo run --release --quiet --offline --manifest-path bench/Cargo.toml
 	@cargo run --release --quiet --offline --manifest-path bench/drawing/Cargo.toml

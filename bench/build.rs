@@ -1,4 +1,4 @@
-// Links the proved libraries: that of the readers, which `rt staticlib bench_lib` writes, and that of `make lib`.
+// Links the proved libraries: that of the readers, which `tools/prove bench_lib` writes, and that of `make lib`.
 use std::path::{Path, PathBuf};
 
 fn link(folder: &Path, library: &str, how: &str) {
@@ -16,15 +16,12 @@ fn link(folder: &Path, library: &str, how: &str) {
 
 fn main() {
     let here = PathBuf::from(std::env::var("CARGO_MANIFEST_DIR").expect("cargo sets it"));
-    let target = here
-        .parent()
-        .expect("bench/ stands in the repository")
-        .join("target");
+    let root = here.parent().expect("bench/ stands in the repository");
     println!("cargo:rerun-if-env-changed=CARGO_MANIFEST_DIR");
     link(
-        &target.join("staticlib"),
+        &root.join("crates/bench_lib/out"),
         "bench_lib",
-        "rt staticlib bench_lib",
+        "tools/prove bench_lib",
     );
-    link(&target.join("lib"), "takwishan", "make lib");
+    link(&root.join("target/lib"), "takwishan", "make lib");
 }

@@ -36,8 +36,8 @@ expect() {
     expect_file "$folder/expected"
 }
 
-# expect_error MESSAGE: this line on standard error and nothing on standard output. The status is not compared: programs of this toolchain
-# cannot set it.
+# expect_error MESSAGE: this line on standard error and nothing on standard output. The status is not compared, since
+# nothing is said by it: it is always 0.
 expect_error() {
     run
     [[ ! -s $folder/out ]] || fail "printed $(cat "$folder/out")"

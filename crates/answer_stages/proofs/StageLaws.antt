@@ -97,7 +97,8 @@ module _ (p s words : List ℕ) (number count : ℕ) (read : FactsRead p s words
           → GivesFromFacts p s union terms helpers clash room r list
       facts_pass f g =
           goes_on room (answers_of (facts_as_read p sheet_width s) union) number (facts_number s) _ r list read.sheet.number_is zero
-          (goes_on room (answers_of (facts_as_read p sheet_width s) union) 0 (clash_number clash helpers (facts_as_read p sheet_width s)) _ r list
+          (goes_on room (answers_of (facts_as_read p sheet_width s) union) 0
+          (clash_number clash helpers (facts_as_read p sheet_width s)) _ r list
           (ap (λ b. pick b 18 0) (sym f) ∙ clash_is helpers clash c e) refl
           (subst (λ fs. GivesAnswers fs union terms room r list) (read.sheet.read zero) g))
 
@@ -162,7 +163,8 @@ module _ (p : List ℕ) (rules : List Rule) (q : Query) (terms : ℕ) (s table :
       → GivesFromFacts p facts (union_in table count) terms helpers clash room r list
       → GivesFromUnion p rules q terms s facts helpers clash room r list
   union_passes facts helpers clash room r list zero g =
-      goes_on room (answers_of (facts_as_read p sheet_width facts) (union_as_read p sheet_width s)) number (union_number p rules q terms s) _ r list
+      goes_on room (answers_of (facts_as_read p sheet_width facts) (union_as_read p sheet_width s)) number
+      (union_number p rules q terms s) _ r list
       read.number_is zero (subst (λ u. GivesFromFacts p facts u terms helpers clash room r list) (read.union_is zero) g)
 
 pub ruleset fact_laws = (

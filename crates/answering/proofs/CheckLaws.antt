@@ -141,7 +141,7 @@ module _ (rules question union : List ℕ) (p table : List ℕ) (first count : �
 pub with_meaning : (rules question union : List ℕ) (r : ℕ) → r ≡ check_number rules question union → Checked rules question union r
 with_meaning rules question union r e =
     let means = zero_means rules question union in
-    record { first_refusal_lem = e; accepted = (λ z. means.0 (sym e ∙ z), λ ok. e ∙ means.1 ok) }
+    record { first_refusal_is = e; accepted = (λ z. means.0 (sym e ∙ z), λ ok. e ∙ means.1 ok) }
 
 pub ruleset laws = (
   rules,

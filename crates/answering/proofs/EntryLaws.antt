@@ -164,7 +164,8 @@ module _ (rules question union facts : List ℕ) (p table : List ℕ) (first cou
         (e : c ≡ (clash || clashing helpers (roles_of_atoms (query_of q).atoms))) (room : ℕ) where
       clashes_there : clash_number c helpers (facts_as_read p sheet_width facts) ≡ clashes rules question union facts room
       clashes_there =
-          let fact = clash_with p rules table first count helpers clash read in_use zero (roles_of_atoms (facts_as_read p sheet_width facts)) in
+          let fact = clash_with p rules table first count helpers clash read in_use zero
+          (roles_of_atoms (facts_as_read p sheet_width facts)) in
           sym (ap₂ otherwise
           (clashes_are rules question union facts p table first count read table01 zero second q asked zero' helpers clash in_use c e)
           refl

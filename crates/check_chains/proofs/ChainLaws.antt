@@ -69,7 +69,8 @@ module _ (words index : List ℕ) (n j : ℕ) (ch : Chains words j index) (long 
       this_place : h ≡ place_of (get_or words j 0) → Last words (j + 1) h (get_or grown h 0)
       this_place d =
           subst (Last words (j + 1) h)
-          (sym (ap (λ x. get_or grown x 0) d ∙ get_or-set_same linked (place_of (get_or words j 0)) (j + 1) 0 (simp length-set (omega arith))))
+          (sym (ap (λ x. get_or grown x 0) d
+          ∙ get_or-set_same linked (place_of (get_or words j 0)) (j + 1) 0 (simp length-set (omega arith))))
           (last_here words j h (sym d))
 
       other_place : h ≢ place_of (get_or words j 0) → Last words (j + 1) h (get_or grown h 0)

@@ -95,7 +95,8 @@ module _ (rules : List ℕ) (k : ℕ) where
 
 module _ (rules : List ℕ) (count : ℕ) (within : count ≤ length rules) where
   -- equal words are equal steps
-  pub same_step : (q : Query) (i j k : ℕ) → j < count → k < count → get_or rules j 0 ≡ get_or rules k 0 → rule_step (rules_in rules count) q i j
+  pub same_step : (q : Query) (i j k : ℕ) → j < count → k < count → get_or rules j 0 ≡ get_or rules k 0
+      → rule_step (rules_in rules count) q i j
       ≡ rule_step (rules_in rules count) q i k
   unfolding rule_step
   same_step q i j k g h e = simp (rule_there rules count within j g, rule_there rules count within k h, e)
@@ -151,7 +152,8 @@ unfolding steps
 each_step union rules q =
     any_append (outside union) (flat_map (λ i. flat_map (λ k. to_list (rule_step rules q i k)) (numbers 0 (length rules))) is)
     (flat_map (λ i. flat_map (λ j. to_list (merge_step q i j)) is) is)
-    ∙ ap₂ ◌||◌ (each_pair (outside union) (rule_step rules q) is (numbers 0 (length rules))) (each_pair (outside union) (merge_step q) is is)
+    ∙ ap₂ ◌||◌ (each_pair (outside union) (rule_step rules q) is (numbers 0 (length rules)))
+    (each_pair (outside union) (merge_step q) is is)
   where
     is : List ℕ
     is = numbers 0 (length q.atoms)

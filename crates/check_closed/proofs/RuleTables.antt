@@ -45,7 +45,8 @@ module _ (rules : List ℕ) (count : ℕ) (q : QueryWords) (i : ℕ) (union : UC
   pub rules_begin : (number at : ℕ) → number ≡ word_name (get_or q.atoms i 0) → Last rules count (place_of number) at
       → Walked (rule_out union (query_of q) (rules_in rules count) i) rules (place_of (word_name (get_or q.atoms i 0))) count at
   rules_begin number at e last =
-      walk_begins (rule_out union (query_of q) (rules_in rules count) i) rules (place_of (word_name (get_or q.atoms i 0))) count at rules_only
+      walk_begins (rule_out union (query_of q) (rules_in rules count) i) rules
+      (place_of (word_name (get_or q.atoms i 0))) count at rules_only
       (subst (λ x. Last rules count (place_of x) at) e last)
 
 -- ---- each rule once

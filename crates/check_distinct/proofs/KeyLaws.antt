@@ -125,7 +125,8 @@ module _ (table : List ℕ) (n : ℕ) where
       → b ≡ any (λ m. alike (query_of q) m.query) (drop (i + 1) (union_in table n)) → b ≡ twin_at i
   has_twin i q b e f = f ∙ ap (λ p. any (λ m. alike p m.query) (drop (i + 1) (union_in table n))) e
 
-  pub twin_found : (i : ℕ) (q : QueryWords) (b : Bool) (rules : List Rule) (p : Query) → some_from twin_at i n ≡ some_from twin_at 0 n → i < n
+  pub twin_found : (i : ℕ) (q : QueryWords) (b : Bool) (rules : List Rule) (p : Query) → some_from twin_at i n ≡ some_from twin_at 0 n
+      → i < n
       → query_of q ≡ (member_in table i).query → b ≡ any (λ m. alike (query_of q) m.query) (drop (i + 1) (union_in table n)) → b ≡ true
       → true ≡ refuses10 rules p (union_in table n)
   twin_found i q b rules p left h e f t =

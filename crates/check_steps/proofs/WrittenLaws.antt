@@ -1,13 +1,11 @@
 -- Refusals 8 and 9: what the step beside a member yields.
 use mathlib.Core.Path.{◌≡◌, refl, sym, ap, ◌∙◌, subst}
 use Prim.Native.Nat.{ℕ, zero, suc, ◌+◌, ◌-◌, ◌*◌, ◌≤◌, ◌<◌}
-use native.Mathlib.Nat.{add-zero}
 use native.Mathlib.Omega.{arith}
 use mathlib.Core.Bool.{Bool, true, false, not, ◌||◌}
 use mathlib.Core.Option.{Option, none, some}
 use mathlib.Core.List.{List, [], ◌∷◌, map}
 use lib.ListN.{length, get_or, drop}
-use lib.Seq.{get_or-drop}
 use borrow.Author.Rules.{rules}
 use borrow.Author.Tests.{eq-eqb, ne_eqb, lt-ltb, le-ltb}
 use Rattle.theory.specs.Lists.{At, any, guard, is_some, numbers}
@@ -18,7 +16,7 @@ use Rattle.theory.specs.Renaming.{alike}
 use Rattle.theory.specs.Union.{yield, yields_unlike, any_from, refuses8, refuses9}
 use Rattle.theory.specs.Laws.Scans.{some_from, number_scans, some_later, some_found, some_none}
 use Rattle.words.specs.Records.{rule_in, step_kind, step_parent, step_atom, step_other, step_of}
-use Rattle.words.specs.Words.{query_of, Small, rules_in, member_of, union_in}
+use Rattle.words.specs.Words.{query_of, Small, rules_in, union_in}
 use Rattle.words.specs.declared.QueryWords.{QueryWords}
 use Rattle.words.specs.Rows.{member_in}
 use Rattle.words.specs.Laws.Rows.{rows, union_at, union_from, rule_there, no_rule_there, step_there}
@@ -69,7 +67,8 @@ module _ (r : QueryFound) (o : Option Query) (e : query_found r ≡ o) where
 -- ---- a rule by its number
 
 module _ (rules : List ℕ) (count : ℕ) (within : count ≤ length rules) (r : QueryFound) (q : QueryWords) (i k : ℕ) where
-  pub rule_steps : k < count → ((rs : List Rule) (l : ℕ) → At rs l (rule_in (get_or rules k 0)) → query_found r ≡ rule_step rs (query_of q) i l)
+  pub rule_steps : k < count → ((rs : List Rule) (l : ℕ) → At rs l (rule_in (get_or rules k 0)) → query_found r
+      ≡ rule_step rs (query_of q) i l)
       → query_found r ≡ rule_step (rules_in rules count) (query_of q) i k
   rule_steps h f = f (rules_in rules count) k (rule_there rules count within k h)
 

@@ -277,7 +277,8 @@ writes (some w) rules question =
     gives_sheet 0 w.0 w.1 room (write_outcome rules question room)
 
 unfoldable pub holds : Card → Bool
-unfolding comes_to prints writes text_for outcome number_of refusal_of partners01 rules_as_read question_as_read union_as_read facts_as_read answers_of
+unfolding comes_to prints writes text_for outcome number_of refusal_of partners01 rules_as_read question_as_read union_as_read facts_as_read
+    answers_of
     list_bytes
     refuses1 refuses2 refuses3 refuses4 refuses5 refuses6 refuses7 refuses8 refuses9 refuses10 refuses11 refuses12 refuses13 refuses17
     refuses18 rules_as_written roles_of_rules roles_of_atoms

@@ -4,7 +4,21 @@ use Rattle.std.specs.Prelude.{◌≡◌, refl, ℕ, Bool, true, false, not, ◌&
 use Rattle.std.proofs.Math.Bool.{xor}
 use Rattle.theory.specs.Lists.{pick, all, pairwise}
 use Rattle.theory.specs.Refusals.{first_refusal}
-use Rattle.theory.specs.Syntax.{Term, var, const, Atom, concept, role, Basic, named, has, has_inverse, Rule, concept_inclusion, role_inclusion}
+use Rattle.theory.specs.Syntax.{
+  Term,
+  var,
+  const,
+  Atom,
+  concept,
+  role,
+  Basic,
+  named,
+  has,
+  has_inverse,
+  Rule,
+  concept_inclusion,
+  role_inclusion,
+}
 use Rattle.theory.specs.Syntax.{Query, Step, Member, UCQ, Fact, on_atoms}
 use Rattle.theory.specs.Qualified.{WrittenRule, plain, qualified}
 use Rattle.theory.specs.Union.{same_query}

@@ -44,7 +44,8 @@ place_of packed n (suc m) i h = go (λ b. place_of packed n m i b) (ltb i m) ref
     -- the place that was put last
     last : i ≡ m → get_or (places_in packed n (suc m)) i no_place ≡ place_in packed n i
     last e =
-        get_or_at (places_in packed n m) (place_in packed n m) [] no_place i (length_places packed n m ∙ sym e) ∙ ap (place_in packed n) (sym e)
+        get_or_at (places_in packed n m) (place_in packed n m) [] no_place i (length_places packed n m ∙ sym e)
+        ∙ ap (place_in packed n) (sym e)
 
     -- one before it
     before : (i < m → get_or (places_in packed n m) i no_place ≡ place_in packed n i) → i < m

@@ -1,6 +1,6 @@
 -- The places, filled one by one: after i turns the first i hold what they are to hold, and the rest are as they were.
 use mathlib.Core.Path.{◌≡◌, refl, sym, ap, ap₂, ◌∙◌}
-use Prim.Native.Nat.{ℕ, suc, ◌+◌, ◌*◌, ◌-◌, ◌<◌, ◌≤◌, ◌^◌}
+use Prim.Native.Nat.{ℕ, suc, ◌+◌, ◌-◌, ◌<◌, ◌≤◌}
 use native.Mathlib.Nat.{le_antisymm}
 use native.Mathlib.Numerals.{add-one}
 use native.Mathlib.Omega.{arith}
@@ -38,7 +38,3 @@ module _ (packed : List ℕ) (n : ℕ) (old : List Place) where
   filled_all i h k =
       ap filled (le_antisymm h k) ∙ ap (λ r. places_in packed n (length old) ++ r) (drop-length old) ∙ append-nil
       (places_in packed n (length old))
-
--- what the bytes before a place come to is a number of the machine
-pub offset_fits : (i m : ℕ) → i < m → m * 42 < 2 ^ 63 → i * 42 < 2 ^ 64
-offset_fits i m h k = omega arith

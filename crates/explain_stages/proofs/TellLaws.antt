@@ -160,7 +160,8 @@ module _ (p question : List ℕ) (number : ℕ) (q : QueryWords) (read : Questio
   pub question_refused : (number ≡ 0 → ⊥) → (r.number ≡ number) × (r.count ≡ 0) × (list ≡ replicate room 0)
       → TellsFromQuestion p rules question union facts helpers clash tuple room r list
   question_refused h g = record {
-    told = tells_stopped rules (facts_as_read p sheet_width facts) (union_as_read p sheet_width union) (term_count question 0) tuple room r list
+    told = tells_stopped rules (facts_as_read p sheet_width facts) (union_as_read p sheet_width union)
+        (term_count question 0) tuple room r list
         number (question_number p question) _ read.number_is h g;
   }
 
@@ -181,7 +182,8 @@ module _ (p question : List ℕ) (number : ℕ) (q : QueryWords) (read : Questio
       let asks-are : asks ≡ (clash || clashing helpers (roles_of_atoms (question_as_read p sheet_width question).atoms))
       = e ∙ ap (λ (x : Query). clash || clashing helpers (roles_of_atoms x.atoms)) (question_is zero) in
       record {
-        told = tells_on rules (facts_as_read p sheet_width facts) (union_as_read p sheet_width union) (term_count question 0) tuple room r list
+        told = tells_on rules (facts_as_read p sheet_width facts) (union_as_read p sheet_width union)
+            (term_count question 0) tuple room r list
             number (question_number p question) _ read.number_is zero
             (subst (λ c. told_of (question_as_read p sheet_width question) (term_count question 0) c) asks-are
             (subst (λ t. told_of (question_as_read p sheet_width question) t asks) (read.query zero).terms_are

@@ -15,7 +15,8 @@ use Rattle.explain_steps.specs.declared.Explanation.{Explanation}
 
 -- 12, 13 and 18
 abbrev pub from_facts : List ℕ → List ℕ → ℕ → Bool → ℕ
-from_facts partners facts helpers clash = otherwise (facts_number facts) (clash_number clash helpers (facts_as_read partners sheet_width facts))
+from_facts partners facts helpers clash = otherwise (facts_number facts)
+    (clash_number clash helpers (facts_as_read partners sheet_width facts))
 
 -- from a fact sheet on: 12, 13, 18, 19 and 20, or the steps
 abbrev pub TellsFromFacts : List ℕ → List Rule → List ℕ → UCQ → ℕ → ℕ → Bool → List ℕ → ℕ → Explanation → List ℕ → Type 0
@@ -36,9 +37,11 @@ question_number partners question = number_of (first_refusal (question_refusals 
 -- from a question on: 3 to 13, 18, 19 and 20, or the steps
 pub record TellsFromQuestion (partners : List ℕ) (rules : List Rule) (question union facts : List ℕ) (helpers : ℕ) (clash : Bool)
     (tuple : List ℕ) (room : ℕ) (r : Explanation) (list : List ℕ) : Type 0 where
-  pub told : TellsBehind rules (facts_as_read partners sheet_width facts) (union_as_read partners sheet_width union) (term_count question 0) tuple
+  pub told : TellsBehind rules (facts_as_read partners sheet_width facts) (union_as_read partners sheet_width union)
+      (term_count question 0) tuple
       room
       (otherwise (question_number partners question)
       (otherwise (union_number partners rules (question_as_read partners sheet_width question) (term_count question 0) union)
-      (from_facts partners facts helpers (clash || clashing helpers (roles_of_atoms (question_as_read partners sheet_width question).atoms)))))
+      (from_facts partners facts helpers (clash
+      || clashing helpers (roles_of_atoms (question_as_read partners sheet_width question).atoms)))))
       r.number r.count list

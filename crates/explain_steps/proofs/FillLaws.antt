@@ -7,9 +7,9 @@ use mathlib.Core.List.{List, [], ◌∷◌, ◌++◌, flat_map, append-nil, appe
 use lib.ListN.{length, get_or, take, drop, replicate, length-append, length-drop, drop_of_length-le}
 use lib.Seq.{take_at, take_all, length-take-le}
 use borrow.Author.Rules.{rules}
-use Rattle.theory.specs.Lists.{◌∈◌, At}
+use Rattle.theory.specs.Lists.{◌∈◌}
 use Rattle.theory.specs.Syntax.{var, Rule, Step, Member, UCQ, terms}
-use Rattle.theory.specs.Targets.{target_at, no_target, Smallest}
+use Rattle.theory.specs.Targets.{target_at, no_target}
 use Rattle.theory.specs.Explaining.{ExplainedStep, PlaceOf, WayBack}
 use Rattle.theory.specs.Laws.Lists.{at_unique, flat_map_append, get_d_within}
 use Rattle.theory.proofs.Laws.Equivalence.{term_into}
@@ -18,14 +18,14 @@ use Rattle.theory.specs.Laws.Explaining.{Behind}
 use Rattle.theory.proofs.Laws.Explaining.{way_behind, behind_unique}
 use Rattle.words.specs.Limits.{place_size}
 use Rattle.words.specs.Records.{step_of, step_parent}
-use Rattle.words.specs.Words.{rules_in, union_in}
+use Rattle.words.specs.Words.{union_in}
 use Rattle.words.specs.Rows.{Rows, member_in}
 use Rattle.words.specs.Laws.Rows.{step_within, step_there, union_at}
 use Rattle.sheets.specs.Packing.{bytes_of, pack_records}
 use Rattle.sheets.specs.StepList.{place_bytes, step_list}
 use Rattle.explain_place.specs.Places.{step_of_place, bytes_of_place}
 use Rattle.explain_place.specs.declared.Place.{Place}
-use Rattle.explain_steps.specs.Filling.{StepsMade, ParentsEarlier, RoomFor, FilledBack, TellsFrom}
+use Rattle.explain_steps.specs.Filling.{RoomFor, FilledBack, TellsFrom}
 use Rattle.explain_steps.specs.declared.Explanation.{Explanation}
 use Rattle.explain_steps.proofs.StepsLaws.{parent_there, made_earlier, climb_less}
 

@@ -1,25 +1,24 @@
 -- The way back in a table of members: how many parents there are, and the place of a member.
 use mathlib.Core.Path.{◌≡◌, refl, sym, ap, ◌∙◌, subst}
-use Prim.Native.Nat.{ℕ, zero, suc, ◌+◌, ◌*◌, ◌≤◌, ◌<◌}
+use Prim.Native.Nat.{ℕ, suc, ◌+◌, ◌*◌, ◌≤◌, ◌<◌}
 use native.Mathlib.Nat.{zero-add, add-zero}
 use native.Mathlib.Omega.{arith}
 use mathlib.Core.Bool.{Bool, true, false}
-use mathlib.Core.Option.{some}
 use mathlib.Core.List.{List}
-use lib.ListN.{length, get_or}
+use lib.ListN.{get_or}
 use borrow.Author.Rules.{rules}
 use Rattle.theory.specs.Lists.{At}
 use Rattle.theory.specs.Syntax.{Rule, Query, Step, UCQ}
 use Rattle.theory.specs.Renaming.{Alike}
-use Rattle.theory.specs.Union.{yield, Yields}
+use Rattle.theory.specs.Union.{yield}
 use Rattle.theory.specs.Targets.{Smallest, HandedBack}
 use Rattle.theory.specs.Explaining.{PlaceOf}
 use Rattle.theory.specs.Laws.Options.{guard_some}
 use Rattle.theory.proofs.Laws.WrittenStep.{yield_iff}
 use Rattle.theory.specs.Laws.Explaining.{Behind}
 use Rattle.words.specs.Records.{step_of, step_kind, step_parent, step_atom, step_other}
-use Rattle.words.specs.Words.{rules_in, union_in, query_of}
-use Rattle.words.specs.Rows.{Rows, member_in}
+use Rattle.words.specs.Words.{union_in, query_of}
+use Rattle.words.specs.Rows.{member_in}
 use Rattle.words.specs.declared.QueryWords.{QueryWords}
 use Rattle.words.specs.Laws.Rows.{row_within, row_there, step_within, step_there, union_at}
 use Rattle.query_steps.specs.StepResults.{query_found}
@@ -30,7 +29,8 @@ use Rattle.explain_steps.specs.Filling.{StepsMade, ParentsEarlier}
 -- ---- parents
 
 -- the parent that a member's words say
-pub parent_there : (table : List ℕ) (k parent : ℕ) → parent ≡ step_parent (get_or table (16 * k) 0) → (member_in table k).step.parent ≡ parent
+pub parent_there : (table : List ℕ) (k parent : ℕ) → parent ≡ step_parent (get_or table (16 * k) 0) → (member_in table k).step.parent
+    ≡ parent
 unfolding step_of
 parent_there table k parent e = ap (λ (s : Step). s.parent) (step_there table k) ∙ sym e
 
@@ -95,7 +95,8 @@ module _ (rules : List Rule) (table : List ℕ) (n k : ℕ) (made : StepsMade ru
   pub place_is : (y : QueryFound) (q : QueryWords) (found : Bool) (targets : List ℕ) (kind parent atom other : ℕ)
       → query_found y ≡ yield rules (union_in table n) k (member_in table k).step → query_of q ≡ (member_in table k).query
       → HandedBack (query_of y.query) (query_of q) found targets → kind ≡ step_kind (get_or table (16 * k) 0)
-      → parent ≡ step_parent (get_or table (16 * k) 0) → atom ≡ step_atom (get_or table (16 * k) 0) → other ≡ step_other (get_or table (16 * k) 0)
+      → parent ≡ step_parent (get_or table (16 * k) 0) → atom ≡ step_atom (get_or table (16 * k) 0) → other
+      ≡ step_other (get_or table (16 * k) 0)
       → PlaceOf rules (union_in table n) k
       (step_of_place (record { member = k; kind = kind; parent = parent; atom = atom; other = other; targets = targets }))
   unfolding query_found step_of

@@ -28,6 +28,6 @@ module _ (rules question union : List ℕ) where
   -- THE PLEDGE of `check`: what the number is that it returns.
   pub record Checked (number : ℕ) : Type 0 where
     -- that of the first refusal of 1, 2, 17, 3 to 11 and 18 that applies
-    pub first_refusal_lem : number ≡ check_number
+    pub first_refusal_is : number ≡ check_number
     -- demand 2: 0 exactly when the sheets are sound and the union is accepted in the demand's own words
     pub accepted : (number ≡ 0) ↔ SoundAndAccepted

@@ -78,7 +78,8 @@ module _ (rules question union facts : List ℕ) (room : ℕ) where
     -- demand 1: 0 exactly for "a call with sound sheets, an accepted union and a long enough list"
     pub zero : (number ≡ 0) ↔ (SoundAndAccepted rules question union × SoundFacts rules facts × (bytes_needed question union facts ≤ room))
     -- 14 exactly when all that is wrong is the length of the list
-    pub short : (number ≡ 14) ↔ (SoundAndAccepted rules question union × SoundFacts rules facts × (room < bytes_needed question union facts))
+    pub short : (number ≡ 14) ↔ (SoundAndAccepted rules question union × SoundFacts rules facts
+        × (room < bytes_needed question union facts))
     -- demand 3: "the list that a call draws has them all and no others": a tuple of registered objects is in the list exactly when the
     -- second reader finds it: it holds no lost tag (02, T-01), and the question has it in some round from the facts under the rules as
     -- written, a pair of records giving each bearer one unnamed thing that has both role and filler (02, T-04)

@@ -54,7 +54,8 @@ module _ (rules question : List ℕ) where
     -- else 15; and else 16, "the lent sheet is shorter than the union"
     abbrev pub refusal_to_write : Option ℕ
     refusal_to_write =
-        or_else (or_else (the_refusal writing two_sheets) (guard (ltb most_members (length the_written)) 15)) (guard (ltb room union_bytes) 16)
+        or_else (or_else (the_refusal writing two_sheets) (guard (ltb most_members (length the_written)) 15))
+        (guard (ltb room union_bytes) 16)
 
     -- the list whole, each condition in the papers' words
     abbrev pub write_conditions : List {1} (ℕ × Type 0)

@@ -35,7 +35,8 @@ module _ {X : Type 0} (g : ℕ → X) where
       let e : k + suc i ≡ suc k + i = omega arith in
       rw e (omega (arith, along_take w (suc k) xs i (omega arith)))
 
-  total_next : (w : X → ℕ) (words : List ℕ) (i x y : ℕ) → i < length words → x ≡ total w (map g (take i words)) → y ≡ w (g (get_or words i 0))
+  total_next : (w : X → ℕ) (words : List ℕ) (i x y : ℕ) → i < length words → x ≡ total w (map g (take i words)) → y
+      ≡ w (g (get_or words i 0))
       → x + y ≡ total w (map g (take (i + 1) words))
   total_next w words i x y h e d = ap₂ ◌+◌ e d ∙ sym (ap (λ k. total w (map g (take k words))) (add-one i) ∙ total_take w words i h)
 

@@ -35,7 +35,8 @@ module _ (q : Query) (low : (v : ℕ) → var v ∈ terms q → v < 32) (h h' : 
   next_agrees v =
       total_agrees (λ a. given_by (colour_by h) a v) (λ a. given_by (colour_by h') a v) q.atoms
       (λ a m. ap (λ x. given_by (colour_by h) x v) (sym (map_atom_id a))
-      ∙ given_image (λ t. t) (colour_by h') (colour_by h) v v a (λ t n. refl) (ap (mix_atom (colour_by h)) (map_atom_id a) ∙ atom_agrees a m))
+      ∙ given_image (λ t. t) (colour_by h') (colour_by h) v v a (λ t n. refl)
+      (ap (mix_atom (colour_by h)) (map_atom_id a) ∙ atom_agrees a m))
 
   key_agrees : key_by q (colour_by h) ≡ key_by q (colour_by h')
   unfolding key_by mix_answer
@@ -60,7 +61,8 @@ pub shapes_made : (q : QueryWords) (k l m : List ℕ) → Small q → ColoursOf 
 shapes_made q k l m s a b c = round_listed q 1 l m s (round_listed q 0 k l s a b) c
 
 pub key_made : (q : QueryWords) (m : List ℕ) (x y : ℕ) → Small q → ColoursOf (colours 2 (query_of q)) m
-    → x ≡ along (mix_answer (colour_by (colour_in m))) 0 (query_of q).answers → y ≡ total (mix_atom (colour_by (colour_in m))) (query_of q).atoms
+    → x ≡ along (mix_answer (colour_by (colour_in m))) 0 (query_of q).answers → y
+    ≡ total (mix_atom (colour_by (colour_in m))) (query_of q).atoms
     → x + y ≡ key (query_of q)
 unfolding key key_by
 key_made q m x y s a d e = ap₂ ◌+◌ d e ∙ key_agrees (query_of q) s.variables (colour_in m) (colours 2 (query_of q)) a.says

@@ -60,12 +60,14 @@ one_term b c e d = simp (sym e ∙ d)
 pub two_terms : (b c : Bool) → b ≡ c → b ≡ false → ◌≡◌ {A = ℕ} 3 (pick c 4 3)
 two_terms b c e d = simp (sym e ∙ d)
 
-module _ (s : Term → ℕ) (a k n t x r : ℕ) (ka : k ≡ word_kind a) (na : n ≡ word_name a) (ta : t ≡ word_first a) (xt : x ≡ s (word_term t)) where
+module _ (s : Term → ℕ) (a k n t x r : ℕ) (ka : k ≡ word_kind a) (na : n ≡ word_name a) (ta : t ≡ word_first a)
+    (xt : x ≡ s (word_term t)) where
   pub concept_mixed : k ≡ 0 → r ≡ mix (4 * n + 2) x 0 → r ≡ mix_atom s (word_atom a)
   unfolding mix_atom
   concept_mixed z e = e ∙ sym (simp (concept_atom a (sym ka ∙ z), sym na, sym ta, sym xt))
 
-  pub role_mixed : (u y c : ℕ) → (k ≡ 0 → ⊥) → u ≡ word_second a → y ≡ s (word_term u) → c ≡ pick (same_term (word_term t) (word_term u)) 4 3
+  pub role_mixed : (u y c : ℕ) → (k ≡ 0 → ⊥) → u ≡ word_second a → y ≡ s (word_term u) → c
+      ≡ pick (same_term (word_term t) (word_term u)) 4 3
       → r ≡ mix (4 * n + c) x y → r ≡ mix_atom s (word_atom a)
   unfolding mix_atom
   role_mixed u y c z ua yu cp e = e ∙ sym (simp (role_atom a (λ w. z (ka ∙ w)), sym na, sym ta, sym ua, sym xt, sym yu, sym cp))

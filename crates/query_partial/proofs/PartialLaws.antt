@@ -14,7 +14,19 @@ use Rattle.theory.specs.Renaming.{promising}
 use Rattle.theory.specs.Laws.Options.{T_and, T_eqb, is_true, same_test}
 use Rattle.theory.proofs.Laws.Spellings.{spellings}
 use Rattle.words.specs.Records.{atom_of}
-use Rattle.words.specs.Words.{Small, word_term, word_atom, word_kind, word_name, word_first, word_second, LowTerm, LowAtom, first_of, second_of}
+use Rattle.words.specs.Words.{
+  Small,
+  word_term,
+  word_atom,
+  word_kind,
+  word_name,
+  word_first,
+  word_second,
+  LowTerm,
+  LowAtom,
+  first_of,
+  second_of,
+}
 use Rattle.words.specs.Laws.Scans.{query_scans}
 use Rattle.words.specs.declared.QueryWords.{QueryWords}
 use Rattle.words.specs.Laws.LowVariables.{answer_low, atom_low, first_low, second_low}
@@ -84,11 +96,13 @@ on_words : (test : Term → Term → Bool) (a b : ℕ) → on_atoms test (word_a
     && (test (first_of a) (first_of b) && pick (eqb (word_kind a) 0) true (test (second_of a) (second_of b))))
 unfolding atom_of
 on_words test a b =
-    on_atoms_lem test (word_kind a) (word_kind b) (word_name a) (word_name b) (first_of a) (first_of b) (second_of a) (second_of b) (omega arith)
+    on_atoms_lem test (word_kind a) (word_kind b) (word_name a) (word_name b) (first_of a) (first_of b) (second_of a) (second_of b)
+    (omega arith)
     (omega arith)
 
 -- two predicates are one where kind and number are
-predicate_words : (a b : ℕ) → same_predicate (word_atom a) (word_atom b) ≡ (eqb (word_kind a) (word_kind b) && eqb (word_name a) (word_name b))
+predicate_words : (a b : ℕ) → same_predicate (word_atom a) (word_atom b)
+    ≡ (eqb (word_kind a) (word_kind b) && eqb (word_name a) (word_name b))
 unfolding same_predicate
 predicate_words a b = on_words (λ s t. true) a b ∙ simp (pick_same, and-true)
   where
@@ -117,7 +131,8 @@ module _ (a b : ℕ) (same : same_predicate (word_atom a) (word_atom b) ≡ true
       on_words (may_become m) a b
       ∙ simp (is_true (eqb (word_kind a) (word_kind b)) tests.0, is_true (eqb (word_name a) (word_name b)) tests.1)
 
-  module _ (m : Partial) (f g : ℕ) (r : Bool) (fa : f ≡ word_first a) (gb : g ≡ word_first b) (h : r ≡ may_become m (word_term f) (word_term g))
+  module _ (m : Partial) (f g : ℕ) (r : Bool) (fa : f ≡ word_first a) (gb : g ≡ word_first b)
+      (h : r ≡ may_become m (word_term f) (word_term g))
     where
       pub first_against : r ≡ false → false ≡ on_atoms (may_become m) (word_atom a) (word_atom b)
       first_against e = sym (terms_decide m ∙ simp (sym fa, sym gb, sym h, e))

@@ -264,7 +264,8 @@ module _ (test : Atom Term → Bool) (n : ℕ) (atoms : List ℕ) where
     pub passed_this : b ≡ false → Gathering test n atoms set (i + 1)
     passed_this f = record {
       gathering = λ u.
-          ap (λ c. holds set u || ((c && stands_in u (word_atom (get_or atoms i 0))) || gathered_from test u n atoms (i + 1))) (sym f) ∙ next u;
+          ap (λ c. holds set u || ((c && stands_in u (word_atom (get_or atoms i 0))) || gathered_from test u n atoms (i + 1))) (sym f)
+          ∙ next u;
     }
 
 pub gathered_all : (test : Atom Term → Bool) (q : QueryWords) (set i : ℕ) → length q.atoms ≡ 8 → q.size ≤ 8

@@ -15,7 +15,19 @@ use Rattle.theory.specs.Rewriting.{unbound, fresh, bearer, rewrite_atom}
 use Rattle.theory.proofs.Laws.Spellings.{exchanged, differ_exchanged}
 use Rattle.theory.specs.Laws.Options.{and_both}
 use Rattle.words.specs.Records.{rule_kind, left_form, left_name, right_form, right_name, basic_of, rule_in, atom_of}
-use Rattle.words.specs.Words.{query_of, Small, word_term, word_atom, word_kind, word_name, word_first, word_second, LowAtom, first_of, second_of}
+use Rattle.words.specs.Words.{
+  query_of,
+  Small,
+  word_term,
+  word_atom,
+  word_kind,
+  word_name,
+  word_first,
+  word_second,
+  LowAtom,
+  first_of,
+  second_of,
+}
 use Rattle.words.specs.declared.QueryWords.{QueryWords}
 use Rattle.words.specs.Laws.LowVariables.{concept_atom, role_atom, variable_word}
 use Rattle.words.specs.Limits.{word_object_bound}
@@ -78,7 +90,8 @@ kind_test (suc zero) h false y = refl
 kind_test (suc (suc k)) h x y = absurd (omega arith)
 
 module _ (x a : ℕ) where
-  names_words : names (rule_in x) (word_atom a) ≡ (eqb (right_name x) (word_name a) && eqb (right_kind (rule_kind x) (right_form x)) (word_kind a))
+  names_words : names (rule_in x) (word_atom a)
+      ≡ (eqb (right_name x) (word_name a) && eqb (right_kind (rule_kind x) (right_form x)) (word_kind a))
   unfolding names rule_in atom_of
   names_words =
       go (eqb (rule_kind x) 1) (eqb (right_form x) 0) (eqb (right_form x) 1) (eqb (word_kind a) 0)

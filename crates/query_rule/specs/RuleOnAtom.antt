@@ -3,7 +3,21 @@ use Rattle.std.specs.Prelude.{◌≡◌, refl, ℕ, Bool, false, eqb}
 use Rattle.std.proofs.Common.{sym, inl, inr, arith}
 use Rattle.std.proofs.Math.Option.{Option, none, some}
 use Rattle.theory.specs.Lists.{guard}
-use Rattle.theory.specs.Syntax.{Term, var, Atom, concept, role, Basic, named, has, has_inverse, Rule, concept_inclusion, role_inclusion, Query}
+use Rattle.theory.specs.Syntax.{
+  Term,
+  var,
+  Atom,
+  concept,
+  role,
+  Basic,
+  named,
+  has,
+  has_inverse,
+  Rule,
+  concept_inclusion,
+  role_inclusion,
+  Query,
+}
 use Rattle.theory.specs.Rewriting.{fresh, rewrite_atom}
 use Rattle.theory.specs.Laws.Rules.{Within}
 use Rattle.theory.proofs.Laws.Rules.{rewrite_image}

@@ -119,7 +119,8 @@ fn describe(q: QueryWords, rule: u64, a: u64) -> AtomFound
 
 // The word of the left role of a rule of kind 2, with the atom's terms kept or exchanged.
 fn oriented_word(rule: u64, a: u64) -> u64
-    ensures { word_atom result ≡ oriented (eqb (right_form rule) 1) (left_name rule) (word_term (word_first a)) (word_term (word_second a)) }
+    ensures { word_atom result ≡ oriented (eqb (right_form rule) 1) (left_name rule) (word_term (word_first a))
+        (word_term (word_second a)) }
 {
     let left = left_name(rule);
     let t = first_term(a);

@@ -175,7 +175,8 @@ module _ (q : QueryWords) (i b : ℕ) (h : i < q.size) where
     ];
   }
 
-  pub atom_changed : (r : QueryWords) → query_of r ≡ once_each (query_of (stored_at q i b)) → query_of r ≡ change_atom (query_of q) i (word_atom b)
+  pub atom_changed : (r : QueryWords) → query_of r ≡ once_each (query_of (stored_at q i b)) → query_of r
+      ≡ change_atom (query_of q) i (word_atom b)
   unfolding query_of once_each change_atom
   atom_changed r e = e ∙ ap (λ l. record { answers = (query_of q).answers; atoms = keep_once l }) atoms_changed
 
@@ -197,7 +198,8 @@ module _ (σ : ℕ → Term) (l : List ℕ) where
 
   module _ (words : List ℕ) (i v : ℕ) where
     pub term_filled : (n : ℕ) → length l ≡ 4 → length words ≡ 4 → i < n → n ≤ 4
-        → map word_term (take i words) ≡ map (subst_term σ) (map word_term (take i l)) → word_term v ≡ subst_term σ (word_term (get_or l i 0))
+        → map word_term (take i words) ≡ map (subst_term σ) (map word_term (take i l)) → word_term v
+        ≡ subst_term σ (word_term (get_or l i 0))
         → map word_term (take (i + 1) (set words i v)) ≡ map (subst_term σ) (map word_term (take (i + 1) l))
     term_filled n k m h g = filled_more word_term (subst_term σ) l words i v (omega arith) (omega arith)
 

@@ -62,7 +62,8 @@ module _ (a k : ℕ) (ka : k ≡ word_kind a) where
 
   pub concept_put : (set f r : ℕ) → k ≡ 0 → f ≡ word_first a → AddsVariables (word_term f ∷ []) set r
       → AddsVariables (args (word_atom a)) set r
-  concept_put set f r z fa first = adds_more (word_term f ∷ []) [] (args (word_atom a)) set r r (simp fa (concept_args z)) first (adds_none r)
+  concept_put set f r z fa first = adds_more (word_term f ∷ []) [] (args (word_atom a)) set r r (simp fa (concept_args z)) first
+      (adds_none r)
 
   pub role_put : (set f g r s : ℕ) → (k ≡ 0 → ⊥) → f ≡ word_first a → g ≡ word_second a → AddsVariables (word_term f ∷ []) set r
       → AddsVariables (word_term g ∷ []) r s → AddsVariables (args (word_atom a)) set s

@@ -66,7 +66,8 @@ is_higher_lem ps n m h e t d = ap (is_higher ps) (sym d) ∙ sym e ∙ t
 
 -- k, n and a are the record's kind, number and first object
 
-module _ (ps : List ℕ) (x k n a r : ℕ) (ek : k ≡ fact_kind sheet_width x) (en : n ≡ fact_name sheet_width x) (ea : a ≡ fact_first sheet_width x)
+module _ (ps : List ℕ) (x k n a r : ℕ) (ek : k ≡ fact_kind sheet_width x) (en : n ≡ fact_name sheet_width x)
+    (ea : a ≡ fact_first sheet_width x)
     (la : a < object_bound) where
   -- a concept's fact
   as_concept : k ≡ 0 → concept n a ≡ atom_as_read ps (fact_of sheet_width x)
@@ -183,13 +184,15 @@ module _ (ps s : List ℕ) where
       → facts_in table (fact_count s) ≡ facts_as_read ps sheet_width s
   unfolding facts_in
   facts_filled table i most past so_far =
-      fill_ends word_fact (fact_read ps) (record_bytes sheet_width) s 0 (fact_count s) table i (map (fact_read ps) (fact_records sheet_width s))
+      fill_ends word_fact (fact_read ps) (record_bytes sheet_width) s 0 (fact_count s) table i
+      (map (fact_read ps) (fact_records sheet_width s))
       so_far most past
       ∙ sym as_read
 
   facts_counted : fact_count s ≡ length (facts_as_read ps sheet_width s)
   facts_counted =
-      sym (ap length as_read ∙ length-map (fact_records sheet_width s) (fact_read ps) ∙ row_length (record_bytes sheet_width) s 0 (fact_count s))
+      sym (ap length as_read ∙ length-map (fact_records sheet_width s) (fact_read ps)
+      ∙ row_length (record_bytes sheet_width) s 0 (fact_count s))
 
 -- its words, bit for bit
 no_words : (table : List ℕ) → FactWords table 0
@@ -233,7 +236,8 @@ module _ (ps s table₀ : List ℕ) where
     pub all_tested : fact_count s ≤ i → true ≡ all (fact_sound sheet_width) (fact_records sheet_width s)
     all_tested = test_ends (fact_sound sheet_width) (record_bytes sheet_width) s 0 (fact_count s) i _ f.tested
 
-    module _ (h : i < fact_count s) (x : ℕ) (r : Bool) (e : r ≡ fact_sound sheet_width x) (here : Nth (record_bytes sheet_width) s 0 i x) where
+    module _ (h : i < fact_count s) (x : ℕ) (r : Bool) (e : r ≡ fact_sound sheet_width x)
+        (here : Nth (record_bytes sheet_width) s 0 i x) where
       pub filling_failed : r ≡ false → false ≡ all (fact_sound sheet_width) (fact_records sheet_width s)
       filling_failed = test_failed (fact_sound sheet_width) (record_bytes sheet_width) s 0 (fact_count s) i _ f.tested h x r e here
 
@@ -287,7 +291,8 @@ module _ (s : List ℕ) where
       unfolding fact_refusals refuses12 refuses13
       facts_read ps table t holds = record {
         sheet =
-            sheet_read (number_of (first_refusal (fact_refusals sheet_width s))) (facts_as_read ps sheet_width s) (facts_in table) most_facts
+            sheet_read (number_of (first_refusal (fact_refusals sheet_width s))) (facts_as_read ps sheet_width s)
+            (facts_in table) most_facts
             0 (fact_count s) refl
             (no_refusal 12 13 (record_bytes sheet_width) (most_fact_bytes sheet_width) s sound even limit short l (sym e ∙ t))
             (holds t).facts (facts_counted ps s) (omega (arith, leb-true limit (most_fact_bytes sheet_width) l));

@@ -13,7 +13,8 @@ pub record FactsRead (partners s table : List ℕ) (number count : ℕ) : Type 0
   -- the number is that of the first of 12 and 13 that applies; where none does, the table's first `count` words are the sheet's facts as
   -- read, and the count is their number
   pub sheet : ReadInto
-      (number_of (first_refusal (fact_refusals sheet_width s))) (facts_as_read partners sheet_width s) (facts_in table) most_facts number count
+      (number_of (first_refusal (fact_refusals sheet_width s))) (facts_as_read partners sheet_width s)
+      (facts_in table) most_facts number count
   -- they are so bit for bit
   pub words : FactWords table count
 

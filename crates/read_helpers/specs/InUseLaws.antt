@@ -10,7 +10,16 @@ use mathlib.Core.List.{List, [], ◌∷◌, ◌++◌, map, flat_map, append_asso
 use Rattle.std.proofs.Math.Dec.{eqb, ltb}
 use Rattle.theory.specs.Lists.{pick, any, all}
 use Rattle.theory.specs.Syntax.{has, has_inverse}
-use Rattle.theory.specs.Qualified.{WrittenRule, plain, first_helper, rules_read, helpers_of, roles_of_basic, roles_of_written, roles_of_rules}
+use Rattle.theory.specs.Qualified.{
+  WrittenRule,
+  plain,
+  first_helper,
+  rules_read,
+  helpers_of,
+  roles_of_basic,
+  roles_of_written,
+  roles_of_rules,
+}
 use Rattle.theory.specs.Qualified.{refuses18}
 use Rattle.theory.specs.Laws.Options.{T_and, T_eqb, same_test}
 use Rattle.theory.specs.Laws.Lists.{any_same}

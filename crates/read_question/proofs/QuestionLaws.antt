@@ -43,7 +43,8 @@ module _ (s : List ℕ) (at : ℕ) where
   pub zero_atoms : (size : ℕ) → size ≡ atom_count s at → size ≡ 0 → false ≡ question_sound sheet_width s at
   zero_atoms size d z = no_atoms size 1 d (omega arith) refl
 
-  pub many_atoms : (size many : ℕ) → size ≡ atom_count s at → many < size → leb most_atoms many ≡ true → false ≡ question_sound sheet_width s at
+  pub many_atoms : (size many : ℕ) → size ≡ atom_count s at → many < size → leb most_atoms many ≡ true → false
+      ≡ question_sound sheet_width s at
   unfolding question_sound
   many_atoms size many d h l = rw (← d, lt-leb size most_atoms (omega (arith, leb-true most_atoms many l)), and-false)
 
@@ -84,7 +85,8 @@ abbrev pub atom_read : List ℕ → ℕ → Atom Term
 atom_read p x = atom_as_read p (atom_of sheet_width x)
 
 pub atoms_filled : (p s : List ℕ) (from n : ℕ) (words : List ℕ) (i : ℕ) → i ≤ n → n ≤ i
-    → map word_atom (take i words) ++ map (atom_read p) (left (record_bytes sheet_width) s from n i) ≡ map (atom_read p) (atoms_from s from n)
+    → map word_atom (take i words) ++ map (atom_read p) (left (record_bytes sheet_width) s from n i)
+    ≡ map (atom_read p) (atoms_from s from n)
     → map word_atom (take n words) ≡ map (atom_as_read p) (map (atom_of sheet_width) (atoms_from s from n))
 atoms_filled p s from n words i most past so_far =
     fill_ends word_atom (atom_read p) (record_bytes sheet_width) s from n words i (map (atom_read p) (atoms_from s from n)) so_far most past

@@ -105,7 +105,8 @@ module _ (q r : QueryWords) (n : ℕ) (x : Bool) (e : x ≡ refuses4 (query_of q
     meets5 t f = record { number_is = f ∙ rw (← e, passes, ← d, t); same = λ none. absurd (omega arith) }
 
 -- neither
-pub meets_none : (q : QueryWords) (x y : Bool) → x ≡ refuses4 (query_of q) → x ≡ false → y ≡ refuses5 (query_of q) → y ≡ false → Judged q 0 q
+pub meets_none : (q : QueryWords) (x y : Bool) → x ≡ refuses4 (query_of q) → x ≡ false → y ≡ refuses5 (query_of q) → y ≡ false
+    → Judged q 0 q
 unfolding number_of first_refusal
 meets_none q x y e f d g = record { number_is = rw (← e, f, ← d, g); same = λ none. refl }
 

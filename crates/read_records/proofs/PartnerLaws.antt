@@ -22,7 +22,8 @@ is_higher_lem p role x e = ap (λ y. ltb y role) e
 
 pub lower_partner : (p : List ℕ) (role x : ℕ) → x ≡ get_or p role role → x < role → x ≡ lower p role
 unfolding lower
-lower_partner p role x e h = e ∙ sym (ap (λ b. pick b (get_or p role role) role) (lt-ltb (get_or p role role) role (subst (λ y. y < role) e h)))
+lower_partner p role x e h = e ∙ sym (ap (λ b. pick b (get_or p role role) role)
+    (lt-ltb (get_or p role role) role (subst (λ y. y < role) e h)))
 
 pub lower_itself : (p : List ℕ) (role x : ℕ) → x ≡ get_or p role role → role ≤ x → role ≡ lower p role
 unfolding lower

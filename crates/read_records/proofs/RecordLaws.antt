@@ -48,7 +48,8 @@ wide_answer x h = simp (le-ltb x sheet_term_bound h)
 
 -- the second place of an atom record, by the atom's kind
 abbrev second_sound : ℕ → Bool
-second_sound x = pick (eqb (atom_kind sheet_width x) 0) (eqb (atom_second sheet_width x) 0) (term_sound sheet_width (atom_second sheet_width x))
+second_sound x = pick (eqb (atom_kind sheet_width x) 0) (eqb (atom_second sheet_width x) 0)
+    (term_sound sheet_width (atom_second sheet_width x))
 
 module _ (x k t : ℕ) (e : k ≡ atom_kind sheet_width x) (d : t ≡ atom_second sheet_width x) where
   pub second_empty : k ≡ 0 → eqb t 0 ≡ second_sound x

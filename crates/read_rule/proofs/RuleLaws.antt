@@ -164,7 +164,8 @@ one_or_two (suc zero) p q = inl refl
 one_or_two (suc (suc zero)) p q = inr refl
 one_or_two (suc (suc (suc f))) p q = absurd (omega arith)
 
-turned_form : (p : List ℕ) (f n : ℕ) → (f ≡ 1) ⊎ (f ≡ 2) → is_higher p n ≡ true → basic_of (3 - f) (lower p n) ≡ basic_as_read p (basic_of f n)
+turned_form : (p : List ℕ) (f n : ℕ) → (f ≡ 1) ⊎ (f ≡ 2) → is_higher p n ≡ true → basic_of (3 - f) (lower p n)
+    ≡ basic_as_read p (basic_of f n)
 unfolding basic_of basic_as_read
 turned_form p f n (inl e) h = rw (e, h)
 turned_form p f n (inr e) h = rw (e, h)
@@ -288,7 +289,8 @@ module _ (p : List ℕ) (x : ℕ) where
       concept_word l r bl br ∙ rw (eq-eqb (rule_kind x) 1 k, ← fl=, ← nl=, ← fr=, ← nr=, el, er)
 
   pub role_rule_as_read : (f m n l d r : ℕ) → (rule_kind x ≡ 1 → ⊥) → f ≡ right_form x → m ≡ left_name x → n ≡ right_name x
-      → l ≡ lower p m → l < name_bound → r ≡ lower p n → r < name_bound → eqb d 1 ≡ xor (eqb f 1) (xor (is_higher p m) (is_higher p n)) → d < 2
+      → l ≡ lower p m → l < name_bound → r ≡ lower p n → r < name_bound → eqb d 1 ≡ xor (eqb f 1) (xor (is_higher p m) (is_higher p n))
+      → d < 2
       → rule_in (536870912 + l * 16384 + d * 4096 + r) ≡ rule_as_read p (rule_in x)
   unfolding rule_in rule_as_read
   role_rule_as_read f m n l d r k ef em en el bl er br ed bd =

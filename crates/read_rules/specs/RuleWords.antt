@@ -13,7 +13,8 @@ use Rattle.read_records.specs.ReadInto.{ReadInto}
 -- read, and the count is their number
 abbrev pub RulesRead : List ℕ → List ℕ → List ℕ → ℕ → ℕ → Type 0
 RulesRead partners s table number count =
-    ReadInto (number_of (first_refusal (rule_refusals partners sheet_width s))) (rules_as_read partners sheet_width s) (rules_in table) most_rules
+    ReadInto (number_of (first_refusal (rule_refusals partners sheet_width s))) (rules_as_read partners sheet_width s)
+    (rules_in table) most_rules
     number count
 
 -- so many helpers are in use, the numbers from 4,095 down, and the flag is 18's test on the rules as written

@@ -78,7 +78,8 @@ module _ (p s : List ℕ) (m : ℕ) where
           pub byte_within : start + k < length s
           byte_within = let g : member_end s (member_start sheet_width s m) ≤ length s = ends in omega (arith, leb-true k step_bytes h)
 
-        pub placed : (size : ℕ) → size ≡ question_length sheet_width s (start + step_bytes) → Placed p sheet_width s m (start + step_bytes) size
+        pub placed : (size : ℕ) → size ≡ question_length sheet_width s (start + step_bytes)
+            → Placed p sheet_width s m (start + step_bytes) size
         unfolding member_part part_start
         placed size c =
             let g : member_end s start ≡ member_end s (member_start sheet_width s m) = ap (λ a. member_end s a) d in

@@ -105,7 +105,8 @@ module _ (p s : List ℕ) (arity count at j end : ℕ) (begins : at ≡ member_s
   pub member_fails : end ≡ 0 → j < count
       → false ≡ (eqb (member_start sheet_width s count) (length s) && all (member_sound p sheet_width arity s) (numbers 0 count))
   member_fails z h = sym (is_false _ (λ t.
-      let a = (T_and (eqb (member_start sheet_width s count) (length s)) (all (member_sound p sheet_width arity s) (numbers 0 count))).0 t in
+      let a = (T_and (eqb (member_start sheet_width s count) (length s))
+      (all (member_sound p sheet_width arity s) (numbers 0 count))).0 t in
       let ends_there : member_start sheet_width s count ≡ length s = eqb→eq (member_start sheet_width s count) (length s) a.0 in
       let whole = le→leb (member_end s at) (length s) (omega (arith, ends_here, start_rises sheet_width s (suc j) count h)) in
       let sound = (all_iff (member_sound p sheet_width arity s) (numbers 0 count)).0 a.1 j ((numbers_iff count j).1 h) in

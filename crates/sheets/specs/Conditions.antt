@@ -6,7 +6,18 @@ use Rattle.theory.specs.Lists.{◌∈◌, At}
 use Rattle.theory.specs.Syntax.{Term, var, Atom, Query, places, terms}
 use Rattle.words.specs.Limits.{variable_bound, most_rules, most_terms, most_atoms, most_members, rule_bytes, record_bytes, most_rule_bytes}
 use Rattle.words.specs.Limits.{most_fact_bytes}
-use Rattle.words.specs.Records.{rule_kind, left_form, right_form, right_name, atom_kind, atom_zero, atom_second, fact_kind, fact_zeros, fact_second}
+use Rattle.words.specs.Records.{
+  rule_kind,
+  left_form,
+  right_form,
+  right_name,
+  atom_kind,
+  atom_zero,
+  atom_second,
+  fact_kind,
+  fact_zeros,
+  fact_second,
+}
 use Rattle.sheets.specs.Format.{rule_records, fact_records, term_count, atom_count, question_length, answer_records, atom_records, query_at}
 use Rattle.sheets.specs.Format.{member_count, member_start, question_start}
 use Rattle.sheets.specs.Partners.{query_as_read}

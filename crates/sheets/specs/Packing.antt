@@ -3,10 +3,34 @@
 use Rattle.std.specs.Prelude.{◌≡◌, ℕ, zero, suc, ◌+◌, ◌-◌, ◌*◌, ◌/◌, ◌%◌, ◌^◌, ◌≤◌, ◌<◌, Bool, length, replicate}
 use mathlib.Core.List.{List, [], ◌∷◌, ◌++◌, map, flat_map}
 use Rattle.theory.specs.Lists.{◌∈◌, pick}
-use Rattle.theory.specs.Syntax.{Term, var, const, Atom, concept, role, Basic, named, has, has_inverse, Rule, concept_inclusion, role_inclusion}
+use Rattle.theory.specs.Syntax.{
+  Term,
+  var,
+  const,
+  Atom,
+  concept,
+  role,
+  Basic,
+  named,
+  has,
+  has_inverse,
+  Rule,
+  concept_inclusion,
+  role_inclusion,
+}
 use Rattle.theory.specs.Syntax.{Query, Step, Member, UCQ, Fact}
 use Rattle.theory.specs.Qualified.{WrittenRule, plain, qualified, rules_read}
-use Rattle.words.specs.Limits.{variable_bound, name_bound, most_rules, most_terms, most_atoms, most_members, most_facts, step_bytes, count_bytes}
+use Rattle.words.specs.Limits.{
+  variable_bound,
+  name_bound,
+  most_rules,
+  most_terms,
+  most_atoms,
+  most_members,
+  most_facts,
+  step_bytes,
+  count_bytes,
+}
 use Rattle.words.specs.Limits.{answer_bytes, record_bytes}
 
 -- ---- bytes and bits: "packed with the most significant bit first"

@@ -5,7 +5,18 @@ use Rattle.theory.specs.Lists.{pick, any, all, numbers}
 use Rattle.theory.specs.Syntax.{Term, var, const, Atom, Query, places, same_term, same_atom}
 use Rattle.words.specs.Limits.{variable_bound, most_rules, most_terms, most_atoms, most_members, rule_bytes, record_bytes, most_rule_bytes}
 use Rattle.words.specs.Limits.{most_fact_bytes}
-use Rattle.words.specs.Records.{rule_kind, is_rule, is_paired, pair_forms, atom_kind, atom_zero, atom_first, atom_second, fact_kind, fact_zeros}
+use Rattle.words.specs.Records.{
+  rule_kind,
+  is_rule,
+  is_paired,
+  pair_forms,
+  atom_kind,
+  atom_zero,
+  atom_first,
+  atom_second,
+  fact_kind,
+  fact_zeros,
+}
 use Rattle.words.specs.Records.{fact_second}
 use Rattle.sheets.specs.Bits.{number_at}
 use Rattle.sheets.specs.Format.{records_from, rule_records, fact_records, term_count, atom_count, question_length, answer_records}
@@ -103,7 +114,8 @@ refuses5 q = repeats q.atoms
 unfoldable pub member_sound_at : List ℕ → ℕ → ℕ → List ℕ → ℕ → Bool
 unfolding question_sound refuses4 refuses5 query_as_read query_at
 member_sound_at partners w arity s at =
-    question_sound w s at && not (refuses4 (query_as_read partners (query_at w s at))) && not (refuses5 (query_as_read partners (query_at w s at)))
+    question_sound w s at && not (refuses4 (query_as_read partners (query_at w s at)))
+    && not (refuses5 (query_as_read partners (query_at w s at)))
     && eqb (term_count s at) arity
 
 unfoldable pub member_sound : List ℕ → ℕ → ℕ → List ℕ → ℕ → Bool

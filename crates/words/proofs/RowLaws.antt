@@ -20,9 +20,11 @@ use Rattle.words.specs.Rows.{Row, row_at, member_in}
 -- ---- words in a row
 
 module _ (l : List ℕ) (at : ℕ) where
-  pub four_words : at + 4 ≤ length l → get_or l at 0 ∷ get_or l (at + 1) 0 ∷ get_or l (at + 2) 0 ∷ get_or l (at + 3) 0 ∷ [] ≡ take 4 (drop at l)
+  pub four_words : at + 4 ≤ length l → get_or l at 0 ∷ get_or l (at + 1) 0 ∷ get_or l (at + 2) 0 ∷ get_or l (at + 3) 0 ∷ []
+      ≡ take 4 (drop at l)
   unfolding numbers
-  four_words h = sym (listed l at 4 h ∙ ap (λ a. get_or l a 0 ∷ get_or l (at + 1) 0 ∷ get_or l (at + 2) 0 ∷ get_or l (at + 3) 0 ∷ []) (add-zero at))
+  four_words h = sym (listed l at 4 h ∙ ap (λ a. get_or l a 0 ∷ get_or l (at + 1) 0 ∷ get_or l (at + 2) 0 ∷ get_or l (at + 3) 0 ∷ [])
+      (add-zero at))
 
   pub eight_words : at + 8 ≤ length l
       → get_or l at 0 ∷ get_or l (at + 1) 0 ∷ get_or l (at + 2) 0 ∷ get_or l (at + 3) 0

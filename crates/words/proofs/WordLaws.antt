@@ -29,7 +29,8 @@ unfolding atom_of
 role_made n t u hn ht hu =
     let kind : (9223372036854775808 + n * 1125899906842624 + t * word_term_bound + u) / 9223372036854775808 % 2 ≡ 1 = omega arith in
     let number : (9223372036854775808 + n * 1125899906842624 + t * word_term_bound + u) / 1125899906842624 % 4096 ≡ n = omega arith in
-    let first : (9223372036854775808 + n * 1125899906842624 + t * word_term_bound + u) / word_term_bound % word_term_bound ≡ t = omega arith in
+    let first : (9223372036854775808 + n * 1125899906842624 + t * word_term_bound + u) / word_term_bound % word_term_bound
+    ≡ t = omega arith in
     let second : (9223372036854775808 + n * 1125899906842624 + t * word_term_bound + u) / 1 % word_term_bound ≡ u = omega arith in
     simp (kind, number, first, second)
 
@@ -55,7 +56,8 @@ same_words a b ha hb = go (eqb (a / word_object_bound) 0) (eqb (b / word_object_
         same_test a b (a % word_object_bound) (b % word_object_bound) (λ z. ap (λ v. v % word_object_bound) z)
         (λ z. omega (arith, eqb-true (a / word_object_bound) 0 e, eqb-true (b / word_object_bound) 0 f))
     go true false e f =
-        ne_eqb a b (λ z. eqb-false (b / word_object_bound) 0 f (sym (ap (λ v. v / word_object_bound) z) ∙ eqb-true (a / word_object_bound) 0 e))
+        ne_eqb a b (λ z. eqb-false (b / word_object_bound) 0 f
+        (sym (ap (λ v. v / word_object_bound) z) ∙ eqb-true (a / word_object_bound) 0 e))
     go false true e f =
         ne_eqb a b (λ z. eqb-false (a / word_object_bound) 0 e (ap (λ v. v / word_object_bound) z ∙ eqb-true (b / word_object_bound) 0 f))
     go false false e f =
@@ -94,7 +96,8 @@ same_atoms k l n m t s u v hk hl ht hs hu hv = go (eqb k 0) (eqb l 0) refl refl
 
 -- two words of atoms, by their fields
 same_atom_lem : (a b : ℕ) → same_atom (word_atom a) (word_atom b)
-    ≡ (eqb (word_kind a) (word_kind b) && eqb (word_name a) (word_name b) && same_terms (word_kind a) (word_first a) (word_first b) (word_second a)
+    ≡ (eqb (word_kind a) (word_kind b) && eqb (word_name a) (word_name b)
+    && same_terms (word_kind a) (word_first a) (word_first b) (word_second a)
     (word_second b))
 unfolding atom_of
 same_atom_lem a b =

@@ -3,7 +3,21 @@
 use Rattle.std.specs.Prelude.{ℕ, ◌+◌, ◌*◌, ◌/◌, ◌%◌, ◌^◌, Bool, true, ◌&&◌, ◌||◌, eqb, ltb}
 use Rattle.std.proofs.Math.Option.{Option}
 use Rattle.theory.specs.Lists.{pick, guard}
-use Rattle.theory.specs.Syntax.{Term, var, const, Atom, concept, role, Basic, named, has, has_inverse, Rule, concept_inclusion, role_inclusion}
+use Rattle.theory.specs.Syntax.{
+  Term,
+  var,
+  const,
+  Atom,
+  concept,
+  role,
+  Basic,
+  named,
+  has,
+  has_inverse,
+  Rule,
+  concept_inclusion,
+  role_inclusion,
+}
 use Rattle.theory.specs.Syntax.{Step, Fact}
 use Rattle.theory.specs.Qualified.{WrittenRule, qualified}
 

@@ -83,7 +83,11 @@ unfoldable pub member_of : List ℕ → Member
 unfolding step_of term_of atom_of
 member_of row = record {
   step = step_of (get_or row 0 0);
-  query = record { answers = map word_term (take (get_or row 1 0) (drop 2 row)); atoms = map word_atom (take (get_or row 6 0) (drop 8 row)) };
+  query = record {
+    answers = map word_term (take (get_or row 1 0) (drop 2 row));
+    atoms = map word_atom
+        (take (get_or row 6 0) (drop 8 row));
+  };
 }
 
 unfoldable pub union_in : List ℕ → ℕ → UCQ

@@ -131,7 +131,8 @@ module _ (rules : List ℕ) (count : ℕ) (within : count ≤ length rules) (par
   unfolding by_rule rule_step stepped appended_all
   unnamed b found l s g e f =
       let none_made = unnamed_none (query_of q) (rule_in (get_or rules k 0)) (word_atom (get_or q.atoms i 0)) (sym e ∙ f) in
-      let no_step : rule_step in_table (query_of q) i k ≡ none = simp (rule_there rules count within k h, atom_at_lem q i l s g, ← none_made) in
+      let no_step : rule_step in_table (query_of q) i k
+      ≡ none = simp (rule_there rules count within k h, atom_at_lem q i l s g, ← none_made) in
       holds_itself ruled table keys n found (sym (ap (λ o. appended_all (union_in table n) (stepped rule_of o)) no_step))
 
   -- what is alike to a member is not appended
@@ -195,9 +196,11 @@ module _ (parent : ℕ) (q : QueryWords) (i j : ℕ) where
   not_merged h = simp (le-ltb i j (omega arith))
 
 pub merges_begin : (parent : ℕ) (q : QueryWords) (i size : ℕ) (u : UCQ) → i < size
-    → LeftToAppend (by_merge parent (query_of q) i) size (appended_all u (flat_map (by_merge parent (query_of q) i) (numbers 0 size))) (i + 1) u
+    → LeftToAppend (by_merge parent (query_of q) i) size (appended_all u (flat_map (by_merge parent (query_of q) i) (numbers 0 size)))
+    (i + 1) u
 merges_begin parent q i size u h =
-    left_skip (by_merge parent (query_of q) i) size goal u (left_begins (by_merge parent (query_of q) i) size goal u refl) (i + 1) (omega arith)
+    left_skip (by_merge parent (query_of q) i) size goal u (left_begins (by_merge parent (query_of q) i) size goal u refl) (i + 1)
+    (omega arith)
     (λ j l. not_merged parent q i j l)
   where
     goal : UCQ
@@ -219,7 +222,8 @@ module _ (rules : List Rule) (count parent : ℕ) (q : Query) (i : ℕ) (goal : 
     pub rules_done : count ≤ k → HoldsMembers goal before before-keys n
     rules_done h = loop_done (by_rule rules parent q i) count goal before before-keys n k now.found now.left h
 
-    module _ (table keys : List ℕ) (m : ℕ) (holds : HoldsMembers (appended_all (union_in before n) (by_rule rules parent q i k)) table keys m)
+    module _ (table keys : List ℕ) (m : ℕ)
+        (holds : HoldsMembers (appended_all (union_in before n) (by_rule rules parent q i k)) table keys m)
         (h : k < count) where
       pub rules_stop : most_members < m → HoldsMembers goal table keys m
       rules_stop = loop_over (by_rule rules parent q i) count goal (union_in before n) k now.left h table keys m holds
@@ -232,7 +236,8 @@ module _ (rules : List Rule) (count parent : ℕ) (q : Query) (i : ℕ) (goal : 
       }
 
 pub rules_begin : (rules : List Rule) (count parent : ℕ) (q : Query) (i : ℕ) (table keys : List ℕ) (n : ℕ) → MembersFound table keys n
-    → RulesLeft rules count parent q i (appended_all (union_in table n) (flat_map (by_rule rules parent q i) (numbers 0 count))) 0 table keys n
+    → RulesLeft rules count parent q i (appended_all (union_in table n)
+    (flat_map (by_rule rules parent q i) (numbers 0 count))) 0 table keys n
 rules_begin rules count parent q i table keys n f = record {
   found = f;
   left = left_begins (by_rule rules parent q i) count
@@ -267,7 +272,8 @@ module _ (rules : List Rule) (count parent : ℕ) (q : Query) (size : ℕ) (goal
 
 pub atoms_begin : (rules : List Rule) (count parent : ℕ) (q : Query) (size : ℕ) (table keys : List ℕ) (n : ℕ) → MembersFound table keys n
     → AtomsLeft rules count parent q size
-    (appended_all (union_in table n) (flat_map (λ i. flat_map (by_rule rules parent q i) (numbers 0 count)) (numbers 0 size))) 0 table keys n
+    (appended_all (union_in table n) (flat_map (λ i. flat_map (by_rule rules parent q i) (numbers 0 count))
+    (numbers 0 size))) 0 table keys n
 atoms_begin rules count parent q size table keys n f = record {
   found = f;
   left = left_begins (λ i. flat_map (by_rule rules parent q i) (numbers 0 count)) size

@@ -1,6 +1,6 @@
 -- The members taken in order, each with all its steps, from the question alone to all that are found.
 use mathlib.Core.Path.{◌≡◌, sym, ap, ◌∙◌, subst}
-use Prim.Native.Nat.{ℕ, ◌+◌, ◌-◌, ◌≤◌, ◌<◌}
+use Prim.Native.Nat.{ℕ, ◌+◌, ◌≤◌, ◌<◌}
 use native.Mathlib.Numerals.{add-one}
 use native.Mathlib.Omega.{arith}
 use mathlib.Core.Option.{some}
@@ -104,7 +104,8 @@ module _ (rules : List Rule) (q : Query) where
       kept_within l =
           let g : length (union_in before n) ≤ length (union_in table m) =
           subst (λ (u : UCQ). length (union_in before n) ≤ length u) (sym (holds.union_is l))
-          (extends_length (union_in before n) _ (appended_all_extends (union_in before n) (steps_from rules k (member_in before k).query))) in
+          (extends_length (union_in before n) _
+          (appended_all_extends (union_in before n) (steps_from rules k (member_in before k).query))) in
           let a = members_length before n in
           let b = members_length table m in
           omega arith
@@ -120,7 +121,8 @@ module _ (rules : List Rule) (q : Query) where
         many = λ x.
             (let few = now.found.few in
             let g : length (grown rules q (k + 1)) ≤ length (grown rules q most_members) =
-            extends_length (grown rules q (k + 1)) (grown rules q most_members) (grown_extends rules q (k + 1) most_members (omega arith)) in
+            extends_length (grown rules q (k + 1)) (grown rules q most_members)
+            (grown_extends rules q (k + 1) most_members (omega arith)) in
             let a : most_members < length (grown rules q (k + 1)) = subst (λ (u : UCQ). most_members < length u) one_more (holds.many l) in
             omega arith);
       }

@@ -53,7 +53,8 @@ module _ (table : List ℕ) (j : ℕ) where
     member_long =
         length_member sheet_width whole_sheet (member_in table j) ∙ ap (λ p. 4 + length (pack_query sheet_width p)) (sym loaded)
 
-    packed : bytes_of 4 (get_or table (16 * j) 0 % rule_bound) ++ pack_query sheet_width (query_of q) ≡ pack_member sheet_width (member_in table j)
+    packed : bytes_of 4 (get_or table (16 * j) 0 % rule_bound) ++ pack_query sheet_width (query_of q)
+        ≡ pack_member sheet_width (member_in table j)
     packed = ap₂ (λ x p. bytes_of 4 x ++ pack_query sheet_width p) step_there loaded ∙ parts (member_in table j)
 
     module _ (first : List ℕ) (at : ℕ) (room : at + length (pack_member sheet_width (member_in table j)) ≤ length first) where
@@ -118,7 +119,8 @@ module _ (table : List ℕ) (n : ℕ) where
 
     pub members_length : j < n
         → length (members_from table n j) ≡ length (pack_member sheet_width (member_in table j)) + length (members_from table n (j + 1))
-    members_length h = ap length (members_cons h) ∙ length-append (pack_member sheet_width (member_in table j)) (members_from table n (j + 1))
+    members_length h = ap length (members_cons h)
+        ∙ length-append (pack_member sheet_width (member_in table j)) (members_from table n (j + 1))
 
 -- ---- the loop that puts them
 
@@ -143,7 +145,8 @@ module _ (table : List ℕ) (n j at : ℕ) (first sheet : List ℕ)
       → Remaining first 2 (members_bytes table n) later to (members_from table n (j + 1))
   member_next later to e d room h =
       let l = members_length table n j h in
-      remaining_next first 2 (members_bytes table n) sheet at (members_from table n j) left (pack_member sheet_width (member_in table j)) later
+      remaining_next first 2 (members_bytes table n) sheet at (members_from table n j) left
+      (pack_member sheet_width (member_in table j)) later
       (members_from table n (j + 1)) to (members_cons table n j h) d (omega arith) e
 
   pub members_ends : (to : ℕ) → to ≡ at + length (pack_member sheet_width (member_in table j)) → j < n

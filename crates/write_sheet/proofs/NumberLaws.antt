@@ -42,7 +42,8 @@ pub narrowed : (t n : ℕ) → t < word_term_bound → n ≡ t % word_object_bou
     → t / word_object_bound * object_bound + n ≡ term_number sheet_width (word_term t)
 narrowed t n h e = ap (λ k. t / word_object_bound * object_bound + k) e ∙ sym (term_moved sheet_width word_width t (omega arith))
 
-module _ (a k n f x : ℕ) (d : n ≡ word_name a) (e : f ≡ word_first a) (g : x ≡ term_number sheet_width (word_term f)) (h : k ≡ word_kind a) where
+module _ (a k n f x : ℕ) (d : n ≡ word_name a) (e : f ≡ word_first a) (g : x ≡ term_number sheet_width (word_term f))
+    (h : k ≡ word_kind a) where
   pub concept_number : k ≡ 0 → n * 17179869184 + x * 131072 ≡ atom_number sheet_width (word_atom a)
   unfolding atom_of fields_number bits_after
   concept_number z = sym (rw (← h, z, ← d, ← e, ← g) (omega arith))

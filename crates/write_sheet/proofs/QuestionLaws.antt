@@ -80,7 +80,8 @@ module _ (first : List ℕ) (at : ℕ) (answers : List ℕ) (n : ℕ) (sheet : L
       → Remaining first at (answers_all answers n) later (at + answer_bytes sheet_width * (i + 1)) (answers_from answers n (i + 1))
   unfolding answers_from answer_record
   answer_next later e full few room h =
-      record_next (answer_bytes sheet_width) (term_number sheet_width) word_term answers n first at (answers_all answers n) sheet i left later
+      record_next (answer_bytes sheet_width) (term_number sheet_width) word_term answers n first at
+      (answers_all answers n) sheet i left later
       (omega arith) h (omega arith) e
 
   pub answer_room : at + answer_bytes sheet_width * n ≤ length first → i < n

@@ -67,7 +67,8 @@ module _ (table : List ℕ) (n : ℕ) where
           let d = one_long in
           omega arith
 
-      module _ (two : List ℕ) (end : ℕ) (g : two ≡ put_at one 2 (members_bytes table n)) (h : end ≡ 2 + length (members_bytes table n)) where
+      module _ (two : List ℕ) (end : ℕ) (g : two ≡ put_at one 2 (members_bytes table n))
+          (h : end ≡ 2 + length (members_bytes table n)) where
         union_put : two ≡ put_at first 0 union
         union_put =
             let l : length (bytes_of 2 n) ≡ 2 = length_bytes_of 2 n in

@@ -17,7 +17,8 @@ pub record GivesOutcome (outcome : WriteOutcome) (r : Written) (sheet : List ℕ
 
 -- 15, and else 16
 abbrev pub refusal_of_union : UCQ → ℕ → Option ℕ
-refusal_of_union union room = or_else (guard (ltb most_members (length union)) 15) (guard (ltb room (length (pack_union sheet_width union))) 16)
+refusal_of_union union room = or_else (guard (ltb most_members (length union)) 15)
+    (guard (ltb room (length (pack_union sheet_width union))) 16)
 
 -- from rules and question that were read
 abbrev pub GivesUnion : UCQ → ℕ → Written → List ℕ → Type 0

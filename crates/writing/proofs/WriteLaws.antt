@@ -52,7 +52,8 @@ module _ (rules question : List ℕ) (room : ℕ) where
   -- the refusal of the call, where that of the sheets is this
   abbrev from_sheets : Option ℕ → Option ℕ
   from_sheets o =
-      or_else (or_else o (guard (ltb most_members (length (the_written rules question))) 15)) (guard (ltb room (union_bytes rules question)) 16)
+      or_else (or_else o (guard (ltb most_members (length (the_written rules question))) 15))
+      (guard (ltb room (union_bytes rules question)) 16)
 
   own_refusal : (o : Option ℕ) → or_else R (or_else Q K) ≡ o → the_refusal writing (two_sheets rules question) ≡ o
   own_refusal o e = writing_first partners01 sheet_width (two_sheets rules question) ∙ e

@@ -119,7 +119,8 @@ module _ (answers : List (List ℕ)) (terms room : ℕ) (known : (t : List ℕ) 
   listed_ascending a j k t u h g l m d e = ascending_at Before answers a j k l (answer_at j (omega arith) t h d) (answer_at k m u g e)
 
   -- zeros after them
-  pub listed_rest : drop (tuple_size terms * length answers) (list_bytes room answers) ≡ replicate (room - tuple_size terms * length answers) 0
+  pub listed_rest : drop (tuple_size terms * length answers) (list_bytes room answers)
+      ≡ replicate (room - tuple_size terms * length answers) 0
   unfolding list_bytes
   listed_rest =
       drop_at (flat_map tuple_bytes answers) (replicate (room - length (flat_map tuple_bytes answers)) 0)

@@ -14,7 +14,15 @@ use Rattle.sheets.specs.Format.{term_count}
 use Rattle.sheets.specs.Refusals.{Sheets, rules_and_question, question_and_union, checking, drawing, refusal_of, Sound, number_of, refusals}
 use Rattle.sheets.specs.Refusals.{conditions_for, rule_refusals, question_refusals, fact_refusals, read_rules, read_question, read_union}
 use Rattle.sheets.specs.Tests.{refuses6}
-use Rattle.sheets.proofs.Laws.OneList.{or_else_none, first_positive, number_stops, number_goes_on, union_refusals, clash_refusals, fact_clash}
+use Rattle.sheets.proofs.Laws.OneList.{
+  or_else_none,
+  first_positive,
+  number_stops,
+  number_goes_on,
+  union_refusals,
+  clash_refusals,
+  fact_clash,
+}
 use Rattle.sheets.proofs.Laws.OneList.{unclashed_first, checking_first, drawing_first, writing_first, question_and_union_lem, number_zero}
 use Rattle.sheets.proofs.Laws.OneList.{unclashed_none, unclashed_positive, checked, refused_iff}
 

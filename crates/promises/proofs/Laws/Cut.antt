@@ -103,7 +103,8 @@ module _ (room : ℕ) where
 
   is_by : (r q u f : List ℕ)
       → outcome r q u f room
-      ≡ by_refusals (of_rules r) (of_question q) (of_bytes q u) (of_union r q u) (of_facts f) (of_clash r q u f) (of_list q u f) (the_answers u f)
+      ≡ by_refusals (of_rules r) (of_question q) (of_bytes q u) (of_union r q u) (of_facts f) (of_clash r q u f) (of_list q u f)
+      (the_answers u f)
   unfolding outcome
   is_by r q u f =
       ap (λ (o : Option ℕ). outcome_by room (the_answers u f) (or_else o (of_list q u f)))
@@ -182,5 +183,6 @@ module _ (room : ℕ) where
       (λ l' l. over_rules (cut_to most_rule_bytes r) q' u' f' l' ∙ sym (over_rules r q' u' f' l))
       ∙ one_cut (most_question_bytes sheet_width) q (λ s. outcome r s u' f' room) (λ l' l. over_question r q' u' f' l'
       ∙ sym (over_question r q u' f' l))
-      ∙ one_cut (most_union_bytes sheet_width) u (λ s. outcome r q s f' room) (λ l' l. over_union r q u' f' l' ∙ sym (over_union r q u f' l))
+      ∙ one_cut (most_union_bytes sheet_width) u (λ s. outcome r q s f' room)
+      (λ l' l. over_union r q u' f' l' ∙ sym (over_union r q u f' l))
       ∙ one_cut (most_fact_bytes sheet_width) f (λ s. outcome r q u s room) (λ l' l. over_facts r q u f' l' ∙ sym (over_facts r q u f l))

@@ -67,7 +67,8 @@ module _ (rules question union facts : List ℕ) (room : ℕ) where
   refused_means h = by_cases (refusal_to_draw rules question union facts room) h
     where
       by_cases : (o : Option ℕ) → (outcome_by room (the_answers union facts) o).number ≢ 0
-          → ((outcome_by room (the_answers union facts) o).count ≡ 0) × ((outcome_by room (the_answers union facts) o).list ≡ replicate room 0)
+          → ((outcome_by room (the_answers union facts) o).count ≡ 0)
+          × ((outcome_by room (the_answers union facts) o).list ≡ replicate room 0)
       by_cases none h = absurd (h refl)
       by_cases (some n) h = (refl, refl)
 

@@ -79,7 +79,8 @@ module _ (sheets : Sheets) (room needed : ℕ) where
       14 (ltb room needed) (room < needed) (λ passed. (ltb_tells room needed).pass) n)
 
   pub zero_none : (number_of refusal ≡ 0) ↔ (refusal ≡ none)
-  zero_none = zero_behind (the_refusal drawing sheets) (ltb room needed) 14 (omega arith) (number_zero partners01 sheet_width sheets drawing)
+  zero_none = zero_behind (the_refusal drawing sheets) (ltb room needed) 14 (omega arith)
+      (number_zero partners01 sheet_width sheets drawing)
 
   pub none_iff : (number_of refusal ≡ 0) ↔ NoneHolds (the_conditions drawing sheets ++ ((14, room < needed) ∷ []))
   none_iff =

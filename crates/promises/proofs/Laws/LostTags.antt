@@ -51,11 +51,13 @@ module _ (rules question union facts : List ℕ) (room : ℕ) where
           empty (x ∷ xs) h = absurd (h x here)
 
       -- and no refusal, whatever the list's length
-      pub literal_not_refused : ((outcome rules question union facts room).number ≡ 0) × ((outcome rules question union facts room).count ≡ 0)
+      pub literal_not_refused : ((outcome rules question union facts room).number ≡ 0)
+          × ((outcome rules question union facts room).count ≡ 0)
       literal_not_refused = (not_refused, count_means rules question union facts room not_refused ∙ ap length no_answers)
         where
           needs_none : bytes_needed question union facts ≡ 0
-          needs_none = ap (λ answers. tuple_size (terms_of question) * length answers) no_answers ∙ mul-zero (tuple_size (terms_of question))
+          needs_none = ap (λ answers. tuple_size (terms_of question) * length answers) no_answers
+              ∙ mul-zero (tuple_size (terms_of question))
 
           not_refused : (outcome rules question union facts room).number ≡ 0
           not_refused =

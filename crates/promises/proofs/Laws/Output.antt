@@ -98,4 +98,5 @@ module _ (room : ℕ) where
       let q' : List ℕ = cut_to (most_question_bytes sheet_width) q in
       one_cut most_rule_bytes r (λ s. write_outcome s q' room)
       (λ l' l. over_rules (cut_to most_rule_bytes r) q' l' ∙ sym (over_rules r q' l))
-      ∙ one_cut (most_question_bytes sheet_width) q (λ s. write_outcome r s room) (λ l' l. over_question r q' l' ∙ sym (over_question r q l))
+      ∙ one_cut (most_question_bytes sheet_width) q (λ s. write_outcome r s room)
+      (λ l' l. over_question r q' l' ∙ sym (over_question r q l))

@@ -97,7 +97,8 @@ module _ (rules question union facts : List ℕ) (room : ℕ) (zero : (outcome r
   -- the answers that the count counts are in the list
   pub fits : 2 * (term_count question 0) * (outcome rules question union facts room).count ≤ room
   fits =
-      let need : 2 * terms_of question * length (the_answers union facts) ≤ room = ((zero_means rules question union facts room).0 zero).2 in
+      let need : 2 * terms_of question * length (the_answers union facts) ≤ room =
+      ((zero_means rules question union facts room).0 zero).2 in
       let n : (outcome rules question union facts room).count ≡ length (the_answers union facts)
       = count_means rules question union facts room zero in
       subst (λ k. 2 * (term_count question 0) * k ≤ room) (sym n)

@@ -26,7 +26,15 @@ use Rattle.sheets.specs.Tests.{refuses6, refuses17}
 use Rattle.sheets.proofs.Laws.Tests.{ltb_tells, lt_or_le}
 use Rattle.sheets.proofs.Laws.PartnerLaws.{partners01_involutive}
 use Rattle.sheets.proofs.Laws.QuestionRefusals.{question_arity}
-use Rattle.sheets.proofs.Laws.OneList.{or_else_none, one_none, number_zero, writing_first, question_and_union_lem, union_refusals, clash_refusals}
+use Rattle.sheets.proofs.Laws.OneList.{
+  or_else_none,
+  one_none,
+  number_zero,
+  writing_first,
+  question_and_union_lem,
+  union_refusals,
+  clash_refusals,
+}
 use Rattle.sheets.proofs.Laws.OneList.{checked_accepted, refused_iff, passed_iff}
 use Rattle.sheets.proofs.Laws.PackingSheets.{whole_sheet}
 use Rattle.sheets.proofs.Laws.StepsInRange.{RuleStands, AtomStands, question_read_in, question_read_stands, question_unrefused}
@@ -97,14 +105,16 @@ module _ (rules question : List ℕ) (sound : SoundToWrite rules question) where
     packed_passes6 : ¬ T (refuses6 partners01 sheet_width (term_count question 0) packed)
     packed_passes6 =
         subst (λ arity. ¬ T (refuses6 partners01 sheet_width arity packed)) (question_arity partners01 sheet_width question)
-        (written_passes6 partners01 sheet_width (the_rules rules) (the_question question) rules_in_lem rules_stand question_in question_stands
+        (written_passes6 partners01 sheet_width (the_rules rules)
+        (the_question question) rules_in_lem rules_stand question_in question_stands
         question_is_sound whole_sheet few)
 
     -- the longest has 33,282 bytes
     pub packed_length : length packed ≤ most_union_bytes sheet_width
     packed_length =
         packed_union_length (the_written rules question)
-        (written_in_range partners01 sheet_width (the_rules rules) (the_question question) rules_in_lem rules_stand question_in question_stands
+        (written_in_range partners01 sheet_width (the_rules rules)
+        (the_question question) rules_in_lem rules_stand question_in question_stands
         question_is_sound few)
 
     -- "The written union is one the desk accepts."
@@ -239,7 +249,8 @@ module _ (rules question : List ℕ) (room : ℕ) where
   refused_means h = by_cases refusal h
     where
       by_cases : (o : Option ℕ) → (write_outcome_by room (the_written rules question) o).number ≢ 0
-          → ((write_outcome_by room (the_written rules question) o).count ≡ 0) × ((write_outcome_by room (the_written rules question) o).size ≡ 0)
+          → ((write_outcome_by room (the_written rules question) o).count ≡ 0)
+          × ((write_outcome_by room (the_written rules question) o).size ≡ 0)
           × ((write_outcome_by room (the_written rules question) o).sheet ≡ replicate room 0)
       by_cases none h = absurd (h refl)
       by_cases (some n) h = (refl, refl, refl)

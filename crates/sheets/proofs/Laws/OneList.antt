@@ -20,7 +20,17 @@ use Rattle.theory.proofs.Laws.QualifiedPlaces.{refuses18_iff}
 use Rattle.theory.proofs.Laws.UnionTests.{refuses7_iff, refuses8_iff, refuses9_iff, refuses10_iff, refuses11_iff}
 use Rattle.sheets.specs.Format.{term_count}
 use Rattle.sheets.specs.Refusals.{Sheets, Which, Refusal, within, only_question, question_and_union, checking}
-use Rattle.sheets.specs.Refusals.{drawing, read_rules, read_question, read_union, refusals, tests_for, conditions_for, refusal_of, number_of}
+use Rattle.sheets.specs.Refusals.{
+  drawing,
+  read_rules,
+  read_question,
+  read_union,
+  refusals,
+  tests_for,
+  conditions_for,
+  refusal_of,
+  number_of,
+}
 use Rattle.sheets.specs.Refusals.{written_rules, rule_roles, question_roles, fact_roles, rules_and_facts, writing, rule_refusals}
 use Rattle.sheets.specs.Refusals.{question_refusals, fact_refusals}
 use Rattle.sheets.specs.Tests.{refuses6}
@@ -343,7 +353,8 @@ module _ (partners : List ℕ) (w : ℕ) (sheets : Sheets) where
     pub passed_iff : (refusal_of partners w takes sheets ≡ none) ↔ NoneHolds conditions_of
     unfolding refusal_of
     passed_iff =
-        no_refusal_iff (tests_for partners w takes sheets (refusals partners w)) conditions_of (decided takes (refusals partners w) every_one)
+        no_refusal_iff (tests_for partners w takes sheets (refusals partners w)) conditions_of
+        (decided takes (refusals partners w) every_one)
 
 -- 02, T-04, of helpers: "Members may use them." What 18 is judged by is the same whatever the union holds.
 pub members_may_use : (partners : List ℕ) (w : ℕ) (rules question facts union other : List ℕ)

@@ -2,7 +2,25 @@
 -- what is read from them.
 use Rattle.std.specs.Prelude.{◌≡◌, length, get_or, drop}
 use Rattle.std.proofs.Math.Path.{refl, ap₂, subst}
-use Rattle.std.proofs.Common.{sym, ap, ◌∙◌, zero-add, suc-add, add-suc, add-zero, add_assoc, mul-zero, pow-suc, not-suc-le-zero, le_of_suc-le-suc, div-lt_iff_lt-mul, add-one, arith, length-append, drop_of_length-le}
+use Rattle.std.proofs.Common.{
+  sym,
+  ap,
+  ◌∙◌,
+  zero-add,
+  suc-add,
+  add-suc,
+  add-zero,
+  add_assoc,
+  mul-zero,
+  pow-suc,
+  not-suc-le-zero,
+  le_of_suc-le-suc,
+  div-lt_iff_lt-mul,
+  add-one,
+  arith,
+  length-append,
+  drop_of_length-le,
+}
 use Prim.Native.Nat.{ℕ, zero, suc, ◌+◌, ◌*◌, ◌/◌, ◌%◌, ◌^◌, ◌≤◌, ◌<◌}
 use Rattle.std.proofs.Math.Nat.{mul-suc}
 use mathlib.Core.List.Memᴰ

@@ -1,20 +1,89 @@
 -- Records as numbers: the fields that were put into a number are read from it, and a number that reads without refusal is put
 -- together from what is read.
-use Rattle.std.specs.Prelude.{◌≡◌, refl, ◌↔◌, ◌≢◌, ℕ, zero, suc, ◌+◌, ◌*◌, ◌/◌, ◌%◌, ◌^◌, ◌≤◌, ◌<◌, Bool, ◌&&◌, ◌||◌, not, List, [], ◌∷◌, eqb}
+use Rattle.std.specs.Prelude.{
+  ◌≡◌,
+  refl,
+  ◌↔◌,
+  ◌≢◌,
+  ℕ,
+  zero,
+  suc,
+  ◌+◌,
+  ◌*◌,
+  ◌/◌,
+  ◌%◌,
+  ◌^◌,
+  ◌≤◌,
+  ◌<◌,
+  Bool,
+  ◌&&◌,
+  ◌||◌,
+  not,
+  List,
+  [],
+  ◌∷◌,
+  eqb,
+}
 use Rattle.std.proofs.Math.Path.{sym, ap₂, fun_ext}
-use Rattle.std.proofs.Common.{ap, ◌∙◌, subst, add-zero, mul_comm, mul_assoc, pow-suc, div-one, mod-eq_of_lt, div-add-mod', div-lt_iff_lt-mul, lt→ltb, lit<}
-use Rattle.std.proofs.Math.Nat.{one-le-pow, mod-lt, div-eq_of_lt, mul-add-div_right, mul-add-mod_self_right, div-div-eq-div-mul, lt-div-mul-add}
+use Rattle.std.proofs.Common.{
+  ap,
+  ◌∙◌,
+  subst,
+  add-zero,
+  mul_comm,
+  mul_assoc,
+  pow-suc,
+  div-one,
+  mod-eq_of_lt,
+  div-add-mod',
+  div-lt_iff_lt-mul,
+  lt→ltb,
+  lit<,
+}
+use Rattle.std.proofs.Math.Nat.{
+  one-le-pow,
+  mod-lt,
+  div-eq_of_lt,
+  mul-add-div_right,
+  mul-add-mod_self_right,
+  div-div-eq-div-mul,
+  lt-div-mul-add,
+}
 use native.Mathlib.Omega.{arith}
 use Rattle.std.proofs.Math.Bool.{true, false}
 use Rattle.std.proofs.Math.Dec.{T, ltb, ltb→lt}
 use Rattle.theory.specs.Lists.{pick}
-use Rattle.theory.specs.Syntax.{Term, var, const, Atom, concept, role, Basic, named, has, has_inverse, Rule, concept_inclusion, role_inclusion}
+use Rattle.theory.specs.Syntax.{
+  Term,
+  var,
+  const,
+  Atom,
+  concept,
+  role,
+  Basic,
+  named,
+  has,
+  has_inverse,
+  Rule,
+  concept_inclusion,
+  role_inclusion,
+}
 use Rattle.theory.specs.Laws.Options.{T_and, T_eqb}
 use Rattle.words.specs.Laws.Fields.{field_below}
 use Rattle.words.specs.Records.{field, is_rule, basic_of, rule_in, term_of, atom_of, fact_of, step_of}
 use Rattle.words.specs.Limits.{sheet_width}
 use Rattle.sheets.specs.Tests.{term_sound, atom_sound, fact_sound}
-use Rattle.sheets.specs.Packing.{bits_after, fields_number, form_of, name_of, rule_fields, rule_number, term_fields, term_number, atom_number}
+use Rattle.sheets.specs.Packing.{
+  bits_after,
+  fields_number,
+  form_of,
+  name_of,
+  rule_fields,
+  rule_number,
+  term_fields,
+  term_number,
+  atom_number,
+}
 use Rattle.sheets.specs.Packing.{fact_number, step_fields, step_number, RuleInRange, TermInRange, AtomInRange, StepInRange, FactInRange}
 use Rattle.sheets.specs.Packing.{atom_fields_by, AtomOver}
 

@@ -107,7 +107,8 @@ module _ (w : ℕ) (whole : WholeBytes w) where
   unfolding pack_query query_at
   question_read q s at h t =
       let n = counts_read q s at h (stands_first (counts q) (pack_answers q ++ pack_atoms q) at s t) in
-      let lists : Stands (pack_answers q ++ pack_atoms q) (at + 1) s = number_then 1 (counts_number q) at (pack_answers q ++ pack_atoms q) s t in
+      let lists : Stands (pack_answers q ++ pack_atoms q) (at + 1) s = number_then 1 (counts_number q) at
+      (pack_answers q ++ pack_atoms q) s t in
       let start : at + 1 + length (pack_answers q) ≡ atoms_start at (term_count s at) =
       ap (λ k. at + 1 + k) (length_pack (answer_bytes w) answer_code q.answers) ∙ ap (atoms_start at) (sym n.0) in
       let a = list_read (answer_bytes w) answer_code s (answer_place at) (at + 1) (answer_row at)
@@ -126,7 +127,8 @@ module _ (w : ℕ) (whole : WholeBytes w) where
   pub answers_count : (s : List ℕ) (at : ℕ) → length (query_at w s at).answers ≡ term_count s at
   unfolding query_at
   answers_count s at =
-      length-map (answer_records w s at) (term_of w) ∙ numbered_length (λ i. number_at s (answer_place at i) (answer_bytes w)) (term_count s at)
+      length-map (answer_records w s at) (term_of w)
+      ∙ numbered_length (λ i. number_at s (answer_place at i) (answer_bytes w)) (term_count s at)
 
   atoms_count : (s : List ℕ) (at : ℕ) → length (query_at w s at).atoms ≡ atom_count s at
   unfolding query_at
@@ -146,7 +148,8 @@ module _ (w : ℕ) (whole : WholeBytes w) where
       let below : get_or s at 0 < 256 = all_at {P = IsByte} s at 0 (omega arith) bytes in
       ap (λ c. c ∷ []) (ap₂ (λ j k. ((0 + j) * 16 + k) % 256) a b ∙ omega arith)
 
-  module _ (s : List ℕ) (at : ℕ) (bytes : All IsByte s) (room : at + question_length w s at ≤ length s) (t : T (question_sound w s at)) where
+  module _ (s : List ℕ) (at : ℕ) (bytes : All IsByte s) (room : at + question_length w s at ≤ length s)
+      (t : T (question_sound w s at)) where
     answers_again : Stands (pack_answers (query_at w s at)) (at + 1) s × All (TermInRange w) (query_at w s at).answers
     unfolding query_at
     answers_again =

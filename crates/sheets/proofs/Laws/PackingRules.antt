@@ -12,13 +12,33 @@ use Rattle.theory.specs.Laws.Options.{T_and, T_eqb, is_true}
 use Rattle.theory.specs.Laws.Lists.{here, forall_cons, all_iff}
 use Rattle.theory.proofs.Laws.QualifiedPlaces.{rules_from}
 use Rattle.words.specs.Limits.{rule_bound, most_rules, rule_bytes}
-use Rattle.words.specs.Records.{left_form, left_name, right_form, right_name, is_rule, basic_of, is_paired, kind3_forms, kind4_forms, pair_forms}
+use Rattle.words.specs.Records.{
+  left_form,
+  left_name,
+  right_form,
+  right_name,
+  is_rule,
+  basic_of,
+  is_paired,
+  kind3_forms,
+  kind4_forms,
+  pair_forms,
+}
 use Rattle.words.specs.Records.{qualified_in}
 use Rattle.sheets.specs.Format.{records_from, rule_records, written_in, written_of}
 use Rattle.sheets.specs.Partners.{written_as_read}
 use Rattle.sheets.specs.Reading.{rules_as_written, rules_as_read}
 use Rattle.sheets.specs.Tests.{refuses1, passes2, refuses2, follows, pairs_sound, refuses17}
-use Rattle.sheets.specs.Packing.{pack_records, fields_number, form_of, name_of, rule_number, qualified_fields, filler_fields, written_numbers}
+use Rattle.sheets.specs.Packing.{
+  pack_records,
+  fields_number,
+  form_of,
+  name_of,
+  rule_number,
+  qualified_fields,
+  filler_fields,
+  written_numbers,
+}
 use Rattle.sheets.specs.Packing.{pack_rules, All, IsByte, IsName, WrittenInRange, WrittenRulesInRange}
 use Rattle.sheets.proofs.Laws.Tests.{itself, not_tells, or_tells, ltb_tells}
 use Rattle.sheets.proofs.Laws.PackingNumbers.{Fit, Has, five, fields_read, fields_below, fields_again, fields_fit, basic_read}
@@ -215,9 +235,11 @@ records_from_lem : (i H : ℕ) (ws : List WrittenRule) → length (flat_map writ
 unfolding placed_from flat_map
 records_from_lem i H [] = zero-le
 records_from_lem i H (plain rule ∷ ws) =
-    let h : length (flat_map written_numbers ws) ≤ length (rules_from (i + 1) (H - 0) ws) = records_from_lem (i + 1) (H - 0) ws in omega arith
+    let h : length (flat_map written_numbers ws) ≤ length (rules_from (i + 1) (H - 0) ws) = records_from_lem (i + 1)
+    (H - 0) ws in omega arith
 records_from_lem i H (qualified left exchanged P filler ∷ ws) =
-    let h : length (flat_map written_numbers ws) ≤ length (rules_from (i + 3) (H - 1) ws) = records_from_lem (i + 3) (H - 1) ws in omega arith
+    let h : length (flat_map written_numbers ws) ≤ length (rules_from (i + 3) (H - 1) ws) = records_from_lem (i + 3)
+    (H - 1) ws in omega arith
 
 -- and so in a whole sheet
 records_few : (ws : List WrittenRule) → length (flat_map written_numbers ws) ≤ length (rules_read ws)

@@ -1,6 +1,29 @@
 -- Sheets: what was packed in range is read again and meets no refusal of the format, and a sheet that meets none is the packing of
 -- what is read from it, which is in range.
-use Rattle.std.specs.Prelude.{◌≡◌, refl, ◌↔◌, ℕ, zero, suc, ◌+◌, ◌*◌, ◌/◌, ◌%◌, ◌^◌, ◌≤◌, ◌<◌, Bool, not, ◌||◌, List, map, T, eqb, ltb, length}
+use Rattle.std.specs.Prelude.{
+  ◌≡◌,
+  refl,
+  ◌↔◌,
+  ℕ,
+  zero,
+  suc,
+  ◌+◌,
+  ◌*◌,
+  ◌/◌,
+  ◌%◌,
+  ◌^◌,
+  ◌≤◌,
+  ◌<◌,
+  Bool,
+  not,
+  ◌||◌,
+  List,
+  map,
+  T,
+  eqb,
+  ltb,
+  length,
+}
 use Rattle.std.proofs.Common.{sym, ap, ◌∙◌, subst, zero-add, add-zero, mul-suc, pow-suc, mul-le-mul_left, arith, map-id, lit<}
 use Rattle.std.proofs.Math.Nat.{pow-le-pow_right, div-add-mod, mul-div_cancel_left, mul-mod_right, div-le_of_le-mul}
 use mathlib.Core.List.Memᴰ

@@ -228,11 +228,13 @@ module _ (partners : List ℕ) (involutive : Involutive partners) where
   written_as_read_again (plain rule) = ap plain (rule_as_read_again rule)
   written_as_read_again (qualified left exchanged P filler) =
       let turned : Bool = xor exchanged (is_higher partners P) in
-      λ i. qualified (basic_as_read_again left i) ((ap (xor turned) (lower_settled P).0 ∙ xor_false turned) i) ((lower_settled P).1 i) filler
+      λ i. qualified (basic_as_read_again left i) ((ap (xor turned) (lower_settled P).0 ∙ xor_false turned) i)
+      ((lower_settled P).1 i) filler
 
   -- ---- a role gives way to a partner other than itself
 
-  pub atom_by_partner : {X : Type 0} (P : ℕ) → partner_of partners P ≢ P → (x y : X) → atom_as_read partners (role (partner_of partners P) y x)
+  pub atom_by_partner : {X : Type 0} (P : ℕ) → partner_of partners P ≢ P → (x y : X)
+      → atom_as_read partners (role (partner_of partners P) y x)
       ≡ atom_as_read partners (role P x y)
   unfolding atom_as_read
   atom_by_partner P d x y =
@@ -256,7 +258,8 @@ module _ (partners : List ℕ) (involutive : Involutive partners) where
       ∙ pick_not (is_higher partners P) (has_inverse (lower partners P)) (has (lower partners P))
 
   pub left_by_partner : (P : ℕ) (exchanged : Bool) (Q : ℕ) → partner_of partners P ≢ P
-      → rule_as_read partners (role_inclusion (partner_of partners P) (not exchanged) Q) ≡ rule_as_read partners (role_inclusion P exchanged Q)
+      → rule_as_read partners (role_inclusion (partner_of partners P) (not exchanged) Q)
+      ≡ rule_as_read partners (role_inclusion P exchanged Q)
   unfolding rule_as_read
   left_by_partner P exchanged Q d =
       let other = partner_other P d in
@@ -274,7 +277,8 @@ module _ (partners : List ℕ) (involutive : Involutive partners) where
       (ap (xor (not exchanged)) other.0 ∙ xor_not_both exchanged (is_higher partners P))
 
   pub right_by_partner : (P : ℕ) (exchanged : Bool) (Q : ℕ) → partner_of partners Q ≢ Q
-      → rule_as_read partners (role_inclusion P (not exchanged) (partner_of partners Q)) ≡ rule_as_read partners (role_inclusion P exchanged Q)
+      → rule_as_read partners (role_inclusion P (not exchanged) (partner_of partners Q))
+      ≡ rule_as_read partners (role_inclusion P exchanged Q)
   unfolding rule_as_read
   right_by_partner P exchanged Q d =
       let other = partner_other Q d in

@@ -1,5 +1,31 @@
 -- What refusals 3, 4 and 5 mean. w is the width of an object's number, 16 on 01's sheets; `at` is the byte at which a question begins.
-use Rattle.std.specs.Prelude.{◌≡◌, refl, ◌⊎◌, ◌↔◌, ℕ, zero, suc, ◌+◌, ◌/◌, ◌%◌, ◌^◌, ◌≤◌, ◌<◌, Bool, true, false, not, List, [], ◌∷◌, ◌++◌, map, T, eqb, length}
+use Rattle.std.specs.Prelude.{
+  ◌≡◌,
+  refl,
+  ◌⊎◌,
+  ◌↔◌,
+  ℕ,
+  zero,
+  suc,
+  ◌+◌,
+  ◌/◌,
+  ◌%◌,
+  ◌^◌,
+  ◌≤◌,
+  ◌<◌,
+  Bool,
+  true,
+  false,
+  not,
+  List,
+  [],
+  ◌∷◌,
+  ◌++◌,
+  map,
+  T,
+  eqb,
+  length,
+}
 use Rattle.std.proofs.Common.{sym, ◌∙◌, subst, inl, inr, zero-le, suc-le-suc, le_of_suc-le-suc, not-suc-le-zero, arith}
 use Rattle.std.proofs.Math.Logic.Iff
 use mathlib.Core.List.Memᴰ
@@ -202,7 +228,11 @@ module _ (w : ℕ) (s : List ℕ) (at : ℕ) (sound : ¬ Malformed w s at) where
 
   pub variables_in_range : (partners : List ℕ) (v : ℕ) → var v ∈ terms (query_as_read partners (query_at w s at)) → v < variable_bound
   variables_in_range partners v m =
-      elim (lt_or_le 31 v) [ inl l ↦ absurd (sound (inr (inr (v, (terms_as_read partners (query_at w s at)).0 m, l)))) | inr l ↦ suc-le-suc l ]
+      elim (lt_or_le 31 v) [
+        | inl l ↦ absurd
+            (sound (inr (inr (v, (terms_as_read partners (query_at w s at)).0 m, l))))
+        | inr l ↦ suc-le-suc l
+      ]
 
 -- as many answer terms and atoms as the counts say
 pub query_arity : (partners : List ℕ) (w : ℕ) (s : List ℕ) (at : ℕ) → length (query_as_read partners (query_at w s at)).answers
@@ -210,7 +240,8 @@ pub query_arity : (partners : List ℕ) (w : ℕ) (s : List ℕ) (at : ℕ) → 
 unfolding query_as_read query_at records_from
 query_arity partners w s at = length-map (answer_records w s at) (term_of w) ∙ numbered_length _ (term_count s at)
 
-pub query_size : (partners : List ℕ) (w : ℕ) (s : List ℕ) (at : ℕ) → length (query_as_read partners (query_at w s at)).atoms ≡ atom_count s at
+pub query_size : (partners : List ℕ) (w : ℕ) (s : List ℕ) (at : ℕ) → length (query_as_read partners (query_at w s at)).atoms
+    ≡ atom_count s at
 unfolding query_as_read query_at records_from
 query_size partners w s at =
     length-map (map (atom_of w) (atom_records w s at)) (atom_as_read partners) ∙ length-map (atom_records w s at) (atom_of w)

@@ -10,7 +10,18 @@ use Rattle.theory.specs.Lists.{all, count}
 use Rattle.theory.specs.Qualified.{WrittenRule, plain, placed_from, first_helper, rules_read, helpers_of}
 use Rattle.theory.specs.Laws.Options.{T_and, T_or, T_eqb, is_true}
 use Rattle.theory.proofs.Laws.QualifiedPlaces.{helpers_from, rules_from}
-use Rattle.words.specs.Records.{rule_kind, left_form, right_form, is_rule, rule_in, rule_of, is_paired, kind3_forms, kind4_forms, pair_forms}
+use Rattle.words.specs.Records.{
+  rule_kind,
+  left_form,
+  right_form,
+  is_rule,
+  rule_in,
+  rule_of,
+  is_paired,
+  kind3_forms,
+  kind4_forms,
+  pair_forms,
+}
 use Rattle.words.specs.Records.{qualified_in}
 use Rattle.sheets.specs.Format.{rule_records, pairs_in, said_alone, said_by, written_in, written_of}
 use Rattle.sheets.specs.Partners.{written_as_read}
@@ -50,7 +61,8 @@ pub written_rule : (x : ℕ) (rest : List ℕ) → T (is_rule x) → written_in 
 unfolding written_in
 written_rule x rest t = ap (λ l. l ++ written_in rest) (said_rule x rest t)
 
-pub written_pair : (x y : ℕ) (rest : List ℕ) → rule_kind x ≡ 3 → rule_kind y ≡ 4 → written_in (x ∷ y ∷ rest) ≡ qualified_in x y ∷ written_in rest
+pub written_pair : (x y : ℕ) (rest : List ℕ) → rule_kind x ≡ 3 → rule_kind y ≡ 4 → written_in (x ∷ y ∷ rest)
+    ≡ qualified_in x y ∷ written_in rest
 unfolding written_in said_by
 written_pair x y rest a b =
     rw (eq-eqb (rule_kind x) 3 a, eq-eqb (rule_kind y) 4 b) (ap (λ l. qualified_in x y ∷ (l ++ written_in rest)) (said_filler y rest b))
@@ -66,7 +78,8 @@ sound_three x rest t e =
     let forms = ((T_and (not (eqb (rule_kind x) 4)) (pair_forms x)).0 s.0).1 in
     (rw (eq-eqb (rule_kind x) 3 e) at forms, rw (eq-eqb (rule_kind x) 3 e) at s.1)
 
-pub sound_four : (y : ℕ) (rest : List ℕ) → T (pairs_sound true (y ∷ rest)) → (rule_kind y ≡ 4) × T (kind4_forms y) × T (pairs_sound false rest)
+pub sound_four : (y : ℕ) (rest : List ℕ) → T (pairs_sound true (y ∷ rest)) → (rule_kind y ≡ 4) × T (kind4_forms y)
+    × T (pairs_sound false rest)
 unfolding pairs_sound follows pair_forms
 sound_four y rest t =
     let s = (T_and (follows true y) (pairs_sound (eqb (rule_kind y) 3) rest)).0 t in

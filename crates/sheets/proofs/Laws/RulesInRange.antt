@@ -13,7 +13,18 @@ use Rattle.std.proofs.Math.ListN.{length}
 use Rattle.theory.specs.Lists.{◌∈◌, pick, to_list}
 use Rattle.theory.specs.Refusals.{first_refusal}
 use Rattle.theory.specs.Syntax.{Basic, named, has, has_inverse, Rule, concept_inclusion, role_inclusion}
-use Rattle.theory.specs.Qualified.{WrittenRule, plain, qualified, some_role, read_as, helper_in, first_helper, placed_from, rules_read, helpers_of}
+use Rattle.theory.specs.Qualified.{
+  WrittenRule,
+  plain,
+  qualified,
+  some_role,
+  read_as,
+  helper_in,
+  first_helper,
+  placed_from,
+  rules_read,
+  helpers_of,
+}
 use Rattle.theory.specs.Laws.Options.{guard_some}
 use Rattle.theory.specs.Laws.Lists.{here, mem_to_list}
 use Rattle.theory.specs.Laws.Refusals.{no_refusal_iff}
@@ -195,7 +206,8 @@ module _ (partners : List ℕ) where
       let later : List ℕ = helpers_from (i + length (read_as H w)) (H - length (helper_in H w)) ws in
       elim (Memᴰ.append_cases (read_as H w) m) [
         | inl k ↦ three_stand H w (λ P n. s P (Memᴰ.append_left later n)) (h w here) r k
-        | inr k ↦ all_three_stand (i + length (read_as H w)) (H - length (helper_in H w)) ws (λ P n. s P (Memᴰ.append_right (helper_in H w) n))
+        | inr k ↦ all_three_stand (i + length (read_as H w)) (H - length (helper_in H w)) ws
+            (λ P n. s P (Memᴰ.append_right (helper_in H w) n))
             (λ v n. h v (Memᴰ.tail n)) r k
       ]
 

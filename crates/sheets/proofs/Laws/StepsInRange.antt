@@ -141,7 +141,8 @@ module _ (w : ℕ) where
       let terms_are : length q.answers ≡ term_count s at = length-map (answer_records w s at) (term_of w)
       ∙ numbered_length (λ i. number_at s (at + 1 + answer_bytes w * i) (answer_bytes w)) (term_count s at) in
       let atoms_are : length q.atoms ≡ atom_count s at = length-map (atom_records w s at) (atom_of w)
-      ∙ numbered_length (λ i. number_at s (at + 1 + answer_bytes w * term_count s at + record_bytes w * i) (record_bytes w)) (atom_count s at) in
+      ∙ numbered_length (λ i. number_at s (at + 1 + answer_bytes w * term_count s at + record_bytes w * i) (record_bytes w))
+      (atom_count s at) in
       let below : (v : ℕ) → var v ∈ terms q → v < variable_bound =
       λ v m. elim (dec_lt v variable_bound) [ yes l ↦ l | no f ↦ absurd (low (v, m, omega arith)) ] in
       record {

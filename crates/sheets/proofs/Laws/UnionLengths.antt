@@ -13,7 +13,8 @@ pub first_begins : (s : List ℕ) → count_bytes ≡ member_start sheet_width s
 unfolding member_start
 first_begins s = refl
 
-pub next_start : (s : List ℕ) (j : ℕ) → member_start sheet_width s j + step_bytes + question_length sheet_width s (question_start sheet_width s j)
+pub next_start : (s : List ℕ) (j : ℕ) → member_start sheet_width s j + step_bytes + question_length sheet_width s
+    (question_start sheet_width s j)
     ≡ member_start sheet_width s (suc j)
 unfolding member_start
 next_start s j = refl

@@ -45,7 +45,8 @@ members_length (m ∷ ms) h =
       members_length ms (λ n i. h n (Memᴰ.tail i)),
     )
 
-pub packed_union_length : (union : UCQ) → UnionInRange sheet_width union → length (pack_union sheet_width union) ≤ most_union_bytes sheet_width
+pub packed_union_length : (union : UCQ) → UnionInRange sheet_width union
+    → length (pack_union sheet_width union) ≤ most_union_bytes sheet_width
 unfolding pack_union
 packed_union_length union h =
     let few = h.1 in

@@ -53,7 +53,8 @@ module _ (rules : List Rule) (facts : List Fact) (union : UCQ) (q : Query) (firs
 
 -- and as written
 pub suffice : (ws : List WrittenRule) (facts : List Fact) (union : UCQ) (q : Query) (tuple : List ℕ) (steps : List ExplainedStep)
-    → Explains (rules_read ws) facts union tuple steps → Accepted (rules_read ws) q union → Apart ws q facts → Suffice ws facts q tuple steps
+    → Explains (rules_read ws) facts union tuple steps → Accepted (rules_read ws) q union → Apart ws q facts
+    → Suffice ws facts q tuple steps
 suffice ws facts union q tuple steps x accepted apart =
     let (n, w) = suffice_as_read (rules_read ws) facts union q accepted.first tuple steps x in record {
       as_read = (n, w);

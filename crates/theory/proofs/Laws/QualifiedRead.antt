@@ -13,7 +13,6 @@ use Rattle.theory.proofs.Laws.QualifiedPlaces.{helper_used}
 use Rattle.theory.proofs.Laws.QualifiedWritten.{oriented_roles}
 use Rattle.theory.proofs.Laws.NamedRounds.{all_named, named_within_written}
 use Rattle.theory.proofs.Laws.QualifiedReadBy.{all_known, HelperAtom as HelperAtomBy, WrittenOrHelper as WrittenOrHelperBy}
-
 pub use Rattle.theory.proofs.Laws.QualifiedReadBy.{free_part}
 
 -- all rules may conclude

@@ -88,11 +88,13 @@ module _ (only : ℕ → Type 0) (only' : PlacedRule → Type 0) (ws : List Writ
         → ¬ Meets18 ws roles
     unfolding roles_of_rules
     free_rule {p} roles m part =
-        free_part ws roles (roles_of_rules ws) (λ P n. flat_map_of roles_of_written (placed_written 0 first_helper ws m) (part P n)) clean_rules
+        free_part ws roles (roles_of_rules ws)
+        (λ P n. flat_map_of roles_of_written (placed_written 0 first_helper ws m) (part P n)) clean_rules
 
     -- what a placed rule of 01's concludes from what is known
     by_plain : (n : ℕ) → AllKnown n → (i H : ℕ) (rule : Rule) (a : Atom Thing)
-        → record { index = i; helper = H; rule = plain rule } ∈ placed_rules ws → only' (record { index = i; helper = H; rule = plain rule })
+        → record { index = i; helper = H; rule = plain rule } ∈ placed_rules ws
+        → only' (record { index = i; helper = H; rule = plain rule })
         → Concludes (AsRead n) i rule a → WrittenOrHelper (suc n) a
     by_plain n known i H rule a m may c =
         let w = concludes_within (AsRead n) (AsWritten n) i rule a

@@ -167,7 +167,8 @@ module _ (p q : Query) (r : Alike p q) where
 alike_complete : (p q : Query) → Alike p q → T (alike p q)
 unfolding alike
 alike_complete p q r =
-    tested_of (promising (may_be []) p q) (complete p q (variables (terms p)) (variables (terms q)) []) (follows_promising p q r [] none_yet)
+    tested_of (promising (may_be []) p q) (complete p q (variables (terms p)) (variables (terms q)) [])
+    (follows_promising p q r [] none_yet)
     (complete_gives p q r (variables (terms p)) (variables (terms q)) [] none_yet
     (variables_unrepeated (terms p)) (λ v m. (let n = variables_mem (terms p) m in (n, mem_variables (terms q) (term_into p q r n)))))
   where

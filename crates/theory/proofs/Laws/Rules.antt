@@ -282,7 +282,8 @@ instance_rewritten q H left right t u h y m holds w = (
 
 instance_complete : (q : Query) (H : Held) (k : ℕ) (left right : Basic) (t u : Term) (h : ℕ → Thing) (y : Thing) → t ∈ terms q
     → H (instance left (value h t) y) → Plain right ⊎ ((¬ Plain right) × (value h u ≡ null k (value h t)))
-    → Rewritten q H (concept_inclusion left right) (instance right t u) h ⊎ AtBound q k (concept_inclusion left right) (instance right t u) h
+    → Rewritten q H (concept_inclusion left right) (instance right t u) h
+    ⊎ AtBound q k (concept_inclusion left right) (instance right t u) h
 instance_complete q H k left right t u h y m holds (inl p) = inl (instance_rewritten q H left right t u h y m holds (inl p))
 instance_complete q H k left right t (const c) h y m holds (inr w) = let e = w.1 in absurd (let z : ◌≡◌ {A = ℕ} 0 1 = cc in omega arith)
 instance_complete q H k left right t (var v) h y m holds (inr w) =

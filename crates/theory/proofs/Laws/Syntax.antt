@@ -26,7 +26,8 @@ OnAtoms R (role P x x') (concept B y) = ⊥
 OnAtoms R (role P x x') (role Q y y') = (P ≡ Q) × R x y × R x' y'
 
 -- which the test on two atoms decides
-pub on_atoms_iff : {X Y : Type 0} (test : X → Y → Bool) (a : Atom X) (b : Atom Y) → T (on_atoms test a b) ↔ OnAtoms (λ x y. T (test x y)) a b
+pub on_atoms_iff : {X Y : Type 0} (test : X → Y → Bool) (a : Atom X) (b : Atom Y) → T (on_atoms test a b)
+    ↔ OnAtoms (λ x y. T (test x y)) a b
 unfolding on_atoms
 on_atoms_iff test (concept A x) (concept B y) = (
   λ t. let s = (T_and (eqb A B) (test x y)).0 t in ((T_eqb A B).0 s.0, s.1),
@@ -62,8 +63,10 @@ map_atom_id (role P x y) = refl
 pub same_atom_iff : (a b : Atom Term) → T (same_atom a b) ↔ (a ≡ b)
 unfolding same_atom
 same_atom_iff a b = (
-  λ t. sym (map_atom_id a) ∙ (on_atoms_map (λ s. s) a b).0 (on_atoms_within a b (λ s t m. (same_term_iff s t).0) ((on_atoms_iff same_term a b).0 t)),
-  λ e. (on_atoms_iff same_term a b).1 (on_atoms_within a b (λ s t m. (same_term_iff s t).1) ((on_atoms_map (λ s. s) a b).1 (map_atom_id a ∙ e))),
+  λ t. sym (map_atom_id a) ∙ (on_atoms_map (λ s. s) a b).0
+      (on_atoms_within a b (λ s t m. (same_term_iff s t).0) ((on_atoms_iff same_term a b).0 t)),
+  λ e. (on_atoms_iff same_term a b).1 (on_atoms_within a b (λ s t m. (same_term_iff s t).1)
+      ((on_atoms_map (λ s. s) a b).1 (map_atom_id a ∙ e))),
 )
 
 -- ---- maps of variables

@@ -34,7 +34,8 @@ first_refusal_iff (e ∷ es) (c ∷ cs) d n = go e.1 d.1 (first_refusal_iff es c
     )
 
 -- no number is given exactly where no condition holds
-pub no_refusal_iff : (tests : List (ℕ × Bool)) (conditions : List {1} (ℕ × Type 0)) → Decides tests conditions → (first_refusal tests ≡ none)
+pub no_refusal_iff : (tests : List (ℕ × Bool)) (conditions : List {1} (ℕ × Type 0)) → Decides tests conditions
+    → (first_refusal tests ≡ none)
     ↔ NoneHolds conditions
 unfolding first_refusal
 no_refusal_iff [] [] d = (λ e. tt, λ u. refl)

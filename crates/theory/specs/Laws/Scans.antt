@@ -2,7 +2,19 @@
 -- these give what all give. A place is a number; a record in the first n words of a table is looked at by its place.
 use Rattle.std.specs.Prelude.{◌≡◌, ◌≢◌, ◌↔◌, Bool, true, false, ◌&&◌, ◌||◌, length, get_or, take, drop}
 use Rattle.std.proofs.Math.Path.{refl, sym, ap}
-use Rattle.std.proofs.Common.{ap₂, ◌∙◌, add-zero, zero-add, add-one, length-take, drop_of_length-le, drop-cons, take-suc, length-take-le, below_more}
+use Rattle.std.proofs.Common.{
+  ap₂,
+  ◌∙◌,
+  add-zero,
+  zero-add,
+  add-one,
+  length-take,
+  drop_of_length-le,
+  drop-cons,
+  take-suc,
+  length-take-le,
+  below_more,
+}
 use Prim.Native.Nat.{ℕ, zero, suc, ◌+◌, ◌-◌, ◌≤◌, ◌<◌}
 use native.Mathlib.Omega.{arith}
 use Rattle.std.proofs.Math.Bool.{and-false}

@@ -1,6 +1,21 @@
 -- A row put into a table: it is there, the rows before it are as they were, and the table has one member more.
 use Rattle.std.specs.Prelude.{◌≡◌, ℕ, zero, suc, ◌+◌, ◌*◌, ◌≤◌, ◌<◌, length, get_or, drop}
-use Rattle.std.proofs.Common.{sym, ◌∙◌, subst, zero-add, add-one, arith, take-append-drop, length-drop, take_at, drop_at, take_all, length-take-le, get_or-take, below_more}
+use Rattle.std.proofs.Common.{
+  sym,
+  ◌∙◌,
+  subst,
+  zero-add,
+  add-one,
+  arith,
+  take-append-drop,
+  length-drop,
+  take_at,
+  drop_at,
+  take_all,
+  length-take-le,
+  get_or-take,
+  below_more,
+}
 use Rattle.std.proofs.Math.Path.{ap, ap₂}
 use mathlib.Core.List.{List, [], ◌∷◌, ◌++◌, map, append_assoc, map-append}
 use Rattle.std.proofs.Math.ListN.{take}

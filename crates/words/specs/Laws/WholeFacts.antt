@@ -23,7 +23,8 @@ by_fields : (f : ℕ) → f < 2 ^ 64
     → f ≡ fact_kind word_width f * 2 ^ 63 + fact_zeros word_width f * 2 ^ 60 + fact_name word_width f * 2 ^ 48
     + fact_first word_width f * 2 ^ 24 + fact_second word_width f
 by_fields f h =
-    together f (f / 2 ^ 24) (f / 2 ^ 48) (f / 2 ^ 60) (f / 2 ^ 63) (fact_kind word_width f) (fact_zeros word_width f) (fact_name word_width f)
+    together f (f / 2 ^ 24) (f / 2 ^ 48) (f / 2 ^ 60) (f / 2 ^ 63) (fact_kind word_width f) (fact_zeros word_width f)
+    (fact_name word_width f)
     (fact_first word_width f) (fact_second word_width f) (omega arith) (omega arith) (omega arith) (omega arith) (omega arith)
   where
     together : (f a b c d k z n x y : ℕ) → f ≡ a * 2 ^ 24 + y → a ≡ b * 2 ^ 24 + x → b ≡ c * 2 ^ 12 + n → c ≡ d * 2 ^ 3 + z → d ≡ k
@@ -41,7 +42,8 @@ module _ (f g : ℕ) (hf : f < 2 ^ 64) (hg : g < 2 ^ 64) (wf : FactWord f) (wg :
   one_word e =
       elim (ℕ_discrete (fact_kind word_width f) 0) [
         | yes k ↦ elim (ℕ_discrete (fact_kind word_width g) 0) [
-          | yes l ↦ (let d : concept (fact_name word_width f) (fact_first word_width f) ≡ concept (fact_name word_width g) (fact_first word_width g)
+          | yes l ↦ (let d : concept (fact_name word_width f) (fact_first word_width f)
+              ≡ concept (fact_name word_width g) (fact_first word_width g)
               = sym (concept_fact f k) ∙ e ∙ concept_fact g l in
               same_fields (k ∙ sym l) (cc) (cc) (wf.empty k ∙ sym (wg.empty l)))
           | no l ↦ absurd (let d = sym (concept_fact f k) ∙ e ∙ role_fact g l in let z : ◌≡◌ {A = ℕ} 0 1 = cc in omega arith)

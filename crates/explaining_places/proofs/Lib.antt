@@ -1,2 +1,0 @@
--- A large local array, for the walk.
-pub mod LocalBytes
