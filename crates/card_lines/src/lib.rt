@@ -2,13 +2,14 @@
 #![tactic(auto)]
 
 use answering::{answer, check};
-use libc::STDOUT_FILENO;
+use std::io;
+use std::io::Print;
 use write_stage::Written;
 use writing::write;
 
 // Prints some bytes.
-fn print(text: &[u8]) {
-    io::write_all(STDOUT_FILENO, text);
+fn print(rt: &impl Print, text: &[u8]) -> io::Result<()> {
+    rt.write_all(text)
 }
 
 // A number as it is, with room for more.
@@ -22,68 +23,83 @@ fn byte(x: u8) -> u64 {
 }
 
 // Prints the bytes in hexadecimal.
-fn print_bytes(bytes: &[u8]) {
-    let mut i: usize = 0;
-    while i < bytes.len() {
-        io::print_hex(STDOUT_FILENO, byte(bytes[i]), 2);
-        i += 1;
+fn print_bytes(rt: &impl Print, bytes: &[u8]) -> io::Result<()> {
+    for x in bytes {
+        print!(rt; "{:02x}", byte(*x))?;
     }
+    Ok(())
 }
 
 // Draws answers into a list of 8 bytes, and prints number, count and every byte of the list.
-pub fn drawn(name: &[u8], rules: &[u8], question: &[u8], union: &[u8], facts: &[u8]) {
+pub fn drawn(
+    rt: &impl Print,
+    name: &[u8],
+    rules: &[u8],
+    question: &[u8],
+    union: &[u8],
+    facts: &[u8],
+) -> io::Result<()> {
     let mut list = [0xffu8; 8];
     let answers = answer(rules, question, union, facts, &mut list);
-    print(name);
-    print(b": number ");
-    io::print_decimal(STDOUT_FILENO, wide(answers.number));
-    print(b", count ");
-    io::print_decimal(STDOUT_FILENO, answers.count);
-    print(b", list ");
-    print_bytes(&list);
-    print(b"\n");
+    print(rt, name)?;
+    print!(rt;
+        ": number {}, count {}, list ",
+        wide(answers.number),
+        answers.count
+    )?;
+    print_bytes(rt, &list)?;
+    println!(rt)
 }
 
 // Checks a union, and prints the number.
-pub fn checked(name: &[u8], rules: &[u8], question: &[u8], union: &[u8]) {
+pub fn checked(
+    rt: &impl Print,
+    name: &[u8],
+    rules: &[u8],
+    question: &[u8],
+    union: &[u8],
+) -> io::Result<()> {
     let number = check(rules, question, union);
-    print(name);
-    print(b": number ");
-    io::print_decimal(STDOUT_FILENO, wide(number));
-    print(b"\n");
+    print(rt, name)?;
+    println!(rt; ": number {}", wide(number))
 }
 
 // Prints what a call that writes a union gave beside the sheet.
-fn print_made(made: Written) {
-    print(b": number ");
-    io::print_decimal(STDOUT_FILENO, wide(made.number));
-    print(b", count ");
-    io::print_decimal(STDOUT_FILENO, made.count);
-    print(b", length ");
-    io::print_decimal(STDOUT_FILENO, made.length);
+fn print_made(rt: &impl Print, made: Written) -> io::Result<()> {
+    print!(rt;
+        ": number {}, count {}, length {}",
+        wide(made.number),
+        made.count,
+        made.length
+    )
 }
 
 // Prints a union that was written, byte by byte, and the number that checking it gives.
-fn print_union(rules: &[u8], question: &[u8], union: &[u8]) {
-    print(b", union ");
-    print_bytes(union);
-    print(b", checked ");
-    io::print_decimal(STDOUT_FILENO, wide(check(rules, question, union)));
-    print(b"\n");
+fn print_union(rt: &impl Print, rules: &[u8], question: &[u8], union: &[u8]) -> io::Result<()> {
+    print(rt, b", union ")?;
+    print_bytes(rt, union)?;
+    println!(rt; ", checked {}", wide(check(rules, question, union)))
 }
 
 // Prints the union at the beginning of a sheet; nothing if it were longer than the sheet, which no union that was written is.
-fn print_beginning(rules: &[u8], question: &[u8], sheet: &[u8], size: usize) {
+fn print_beginning(
+    rt: &impl Print,
+    rules: &[u8],
+    question: &[u8],
+    sheet: &[u8],
+    size: usize,
+) -> io::Result<()> {
     if size <= sheet.len() {
-        print_union(rules, question, &sheet[..size]);
+        print_union(rt, rules, question, &sheet[..size])?;
     }
+    Ok(())
 }
 
 // Writes the union of rules and question, and prints number, count and length, every byte of the union, and what checking it gives.
-pub fn written(name: &[u8], rules: &[u8], question: &[u8]) {
+pub fn written(rt: &impl Print, name: &[u8], rules: &[u8], question: &[u8]) -> io::Result<()> {
     let mut sheet = [0xffu8; 256];
     let made = write(rules, question, &mut sheet);
-    print(name);
-    print_made(made);
-    print_beginning(rules, question, &sheet, made.length as usize);
+    print(rt, name)?;
+    print_made(rt, made)?;
+    print_beginning(rt, rules, question, &sheet, made.length as usize)
 }

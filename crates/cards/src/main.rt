@@ -5,7 +5,9 @@
 mod k1;
 mod ours;
 
-fn main() {
-    k1::run();
-    ours::run();
+use std::io;
+
+fn main(rt: HostRuntime) -> io::Result<()> {
+    k1::run(&rt)?;
+    ours::run(&rt)
 }

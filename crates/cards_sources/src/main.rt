@@ -6,8 +6,10 @@ mod source003;
 mod source004;
 mod traps;
 
-fn main() {
-    source003::run();
-    source004::run();
-    traps::run();
+use std::io;
+
+fn main(rt: HostRuntime) -> io::Result<()> {
+    source003::run(&rt)?;
+    source004::run(&rt)?;
+    traps::run(&rt)
 }

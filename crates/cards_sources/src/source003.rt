@@ -1,8 +1,10 @@
 // Unions from source document 003, with the members that PerfectRef, as 01 has it, gives.
 use card_lines::{checked, drawn, written};
+use std::io;
+use std::io::Print;
 
 // 003, section 3.1, its sheets record by record: in the union each line is a step and a question.
-fn section_3_1() {
+fn section_3_1(rt: &impl Print) -> io::Result<()> {
     // A ⊑ ∃P; ∃P⁻ ⊑ B
     let rules = b"\x10\x00\x50\x10\
         \x18\x04\x00\x02";
@@ -18,22 +20,29 @@ fn section_3_1() {
     let facts = b"\x00\x01\x00\x05\x00\x00\
         \x80\x10\x00\x07\x00\x09";
     drawn(
+        rt,
         b"003, section 3.1, 4 members",
         rules,
         question,
         union,
         facts,
-    );
+    )?;
     let open = b"\x00\x03\
         \x00\x00\x00\x00\x12\x00\x00\x00\x80\x40\x00\x00\x00\x01\x00\x08\x00\x02\x00\x00\
         \x40\x01\x00\x01\x12\x00\x00\x00\x80\x40\x00\x00\x00\x01\x80\x40\x00\x04\x00\x01\
         \x80\x10\x00\x01\x11\x00\x00\x00\x80\x40\x00\x00\x00\x01";
-    checked(b"003, section 3.1, without the last", rules, question, open);
-    written(b"003, section 3.1, written", rules, question);
+    checked(
+        rt,
+        b"003, section 3.1, without the last",
+        rules,
+        question,
+        open,
+    )?;
+    written(rt, b"003, section 3.1, written", rules, question)
 }
 
 // 003, example 1, its sheets record by record: in the union each line is a step and a question.
-fn example_1() {
+fn example_1(rt: &impl Print) -> io::Result<()> {
     // A ⊑ ∃R
     let rules = b"\x10\x00\x50\x11";
     // answer x: R(x,y), R(z,y), B(z)
@@ -51,16 +60,29 @@ fn example_1() {
         \x80\x11\x00\x08\x00\x09\
         \x80\x11\x00\x03\x00\x09\
         \x00\x02\x00\x03\x00\x00";
-    drawn(b"003, example 1, 3 members", rules, question, union, facts);
+    drawn(
+        rt,
+        b"003, example 1, 3 members",
+        rules,
+        question,
+        union,
+        facts,
+    )?;
     let open = b"\x00\x02\
         \x00\x00\x00\x00\x13\x00\x00\x00\x80\x44\x00\x00\x00\x01\x80\x44\x00\x04\x00\x01\x00\x08\x00\x04\x00\x00\
         \x80\x00\x00\x01\x12\x00\x00\x00\x80\x44\x00\x00\x00\x01\x00\x08\x00\x00\x00\x00";
-    checked(b"003, example 1, without the last", rules, question, open);
-    written(b"003, example 1, written", rules, question);
+    checked(
+        rt,
+        b"003, example 1, without the last",
+        rules,
+        question,
+        open,
+    )?;
+    written(rt, b"003, example 1, written", rules, question)
 }
 
 // 003, example 3, first, its sheets record by record: in the union each line is a step and a question.
-fn example_3() {
+fn example_3(rt: &impl Print) -> io::Result<()> {
     // A ⊑ ∃R
     let rules = b"\x10\x00\x50\x11";
     // answer x: A(x), R(x,y)
@@ -73,25 +95,27 @@ fn example_3() {
     let facts = b"\x00\x01\x00\x05\x00\x00\
         \x80\x11\x00\x06\x00\x07";
     drawn(
+        rt,
         b"003, example 3, first, 2 members",
         rules,
         question,
         union,
         facts,
-    );
+    )?;
     let open = b"\x00\x01\
         \x00\x00\x00\x00\x12\x00\x00\x00\x00\x04\x00\x00\x00\x00\x80\x44\x00\x00\x00\x01";
     checked(
+        rt,
         b"003, example 3, first, without the last",
         rules,
         question,
         open,
-    );
-    written(b"003, example 3, first, written", rules, question);
+    )?;
+    written(rt, b"003, example 3, first, written", rules, question)
 }
 
 // 003, example 3, second, its sheets record by record: in the union each line is a step and a question.
-fn example_3_twice() {
+fn example_3_twice(rt: &impl Print) -> io::Result<()> {
     // A ⊑ ∃R
     let rules = b"\x10\x00\x50\x11";
     // answer x: A(x), R(x,y), B(y)
@@ -106,17 +130,18 @@ fn example_3_twice() {
         \x80\x11\x00\x06\x00\x07\
         \x00\x02\x00\x07\x00\x00";
     drawn(
+        rt,
         b"003, example 3, second, 1 member",
         rules,
         question,
         union,
         facts,
-    );
-    written(b"003, example 3, second, written", rules, question);
+    )?;
+    written(rt, b"003, example 3, second, written", rules, question)
 }
 
 // 003, section 2.4, its sheets record by record: in the union each line is a step and a question.
-fn section_2_4() {
+fn section_2_4(rt: &impl Print) -> io::Result<()> {
     // B ⊑ ∃S; ∃S⁻ ⊑ B
     let rules = b"\x10\x00\x90\x12\
         \x18\x04\x80\x02";
@@ -135,12 +160,13 @@ fn section_2_4() {
     let facts = b"\x00\x02\x00\x05\x00\x00\
         \x80\x12\x00\x06\x00\x07";
     drawn(
+        rt,
         b"003, section 2.4, 7 members",
         rules,
         question,
         union,
         facts,
-    );
+    )?;
     let open = b"\x00\x06\
         \x00\x00\x00\x00\x12\x00\x00\x00\x80\x48\x00\x00\x00\x01\x80\x48\x00\x02\x00\x02\
         \x40\x01\x00\x00\x12\x00\x00\x00\x80\x48\x00\x00\x00\x01\x00\x08\x00\x02\x00\x00\
@@ -148,15 +174,21 @@ fn section_2_4() {
         \x40\x11\x00\x01\x12\x00\x00\x00\x80\x48\x00\x00\x00\x01\x80\x48\x00\x04\x00\x01\
         \x80\x30\x00\x01\x11\x00\x00\x00\x80\x48\x00\x00\x00\x01\
         \x40\x40\x00\x00\x11\x00\x00\x00\x00\x08\x00\x00\x00\x00";
-    checked(b"003, section 2.4, without the last", rules, question, open);
-    written(b"003, section 2.4, written", rules, question);
+    checked(
+        rt,
+        b"003, section 2.4, without the last",
+        rules,
+        question,
+        open,
+    )?;
+    written(rt, b"003, section 2.4, written", rules, question)
 }
 
 // All of them.
-pub fn run() {
-    section_3_1();
-    example_1();
-    example_3();
-    example_3_twice();
-    section_2_4();
+pub fn run(rt: &impl Print) -> io::Result<()> {
+    section_3_1(rt)?;
+    example_1(rt)?;
+    example_3(rt)?;
+    example_3_twice(rt)?;
+    section_2_4(rt)
 }

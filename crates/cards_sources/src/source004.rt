@@ -1,8 +1,10 @@
 // Unions from source document 004, the same rules once as they stand and once with one appended.
 use card_lines::{checked, drawn, written};
+use std::io;
+use std::io::Print;
 
 // 004, example 1, its sheets record by record: in the union each line is a step and a question.
-fn example_1() {
+fn example_1(rt: &impl Print) -> io::Result<()> {
     // S ⊑ P; A ⊑ ∃S
     let rules = b"\x20\x04\x80\x10\
         \x10\x00\x50\x12";
@@ -17,16 +19,29 @@ fn example_1() {
     let facts = b"\x00\x01\x00\x05\x00\x00\
         \x00\x02\x00\x06\x00\x00\
         \x80\x12\x00\x07\x00\x08";
-    drawn(b"004, example 1, 3 members", rules, question, union, facts);
+    drawn(
+        rt,
+        b"004, example 1, 3 members",
+        rules,
+        question,
+        union,
+        facts,
+    )?;
     let open = b"\x00\x02\
         \x00\x00\x00\x00\x12\x00\x00\x00\x80\x48\x00\x00\x00\x01\x80\x40\x00\x00\x00\x01\
         \x40\x01\x00\x00\x11\x00\x00\x00\x80\x48\x00\x00\x00\x01";
-    checked(b"004, example 1, without the last", rules, question, open);
-    written(b"004, example 1, written", rules, question);
+    checked(
+        rt,
+        b"004, example 1, without the last",
+        rules,
+        question,
+        open,
+    )?;
+    written(rt, b"004, example 1, written", rules, question)
 }
 
 // 004, example 1, longer, its sheets record by record: in the union each line is a step and a question.
-fn example_1_longer() {
+fn example_1_longer(rt: &impl Print) -> io::Result<()> {
     // S ⊑ P; A ⊑ ∃S; B ⊑ ∃S
     let rules = b"\x20\x04\x80\x10\
         \x10\x00\x50\x12\
@@ -44,27 +59,29 @@ fn example_1_longer() {
         \x00\x02\x00\x06\x00\x00\
         \x80\x12\x00\x07\x00\x08";
     drawn(
+        rt,
         b"004, example 1, longer, 4 members",
         rules,
         question,
         union,
         facts,
-    );
+    )?;
     let open = b"\x00\x03\
         \x00\x00\x00\x00\x12\x00\x00\x00\x80\x48\x00\x00\x00\x01\x80\x40\x00\x00\x00\x01\
         \x40\x01\x00\x00\x11\x00\x00\x00\x80\x48\x00\x00\x00\x01\
         \x40\x10\x00\x01\x11\x00\x00\x00\x00\x04\x00\x00\x00\x00";
     checked(
+        rt,
         b"004, example 1, longer, without the last",
         rules,
         question,
         open,
-    );
-    written(b"004, example 1, longer, written", rules, question);
+    )?;
+    written(rt, b"004, example 1, longer, written", rules, question)
 }
 
 // 004, example 2, its sheets record by record: in the union each line is a step and a question.
-fn example_2() {
+fn example_2(rt: &impl Print) -> io::Result<()> {
     // S ⊑ P; A ⊑ ∃S
     let rules = b"\x20\x04\x80\x10\
         \x10\x00\x50\x12";
@@ -78,15 +95,28 @@ fn example_2() {
     let facts = b"\x80\x11\x00\x05\x00\x06\
         \x80\x12\x00\x05\x00\x06\
         \x00\x01\x00\x07\x00\x00";
-    drawn(b"004, example 2, 2 members", rules, question, union, facts);
+    drawn(
+        rt,
+        b"004, example 2, 2 members",
+        rules,
+        question,
+        union,
+        facts,
+    )?;
     let open = b"\x00\x01\
         \x00\x00\x00\x00\x12\x00\x00\x00\x80\x44\x00\x00\x00\x01\x80\x40\x00\x00\x00\x01";
-    checked(b"004, example 2, without the last", rules, question, open);
-    written(b"004, example 2, written", rules, question);
+    checked(
+        rt,
+        b"004, example 2, without the last",
+        rules,
+        question,
+        open,
+    )?;
+    written(rt, b"004, example 2, written", rules, question)
 }
 
 // 004, example 2, longer, its sheets record by record: in the union each line is a step and a question.
-fn example_2_longer() {
+fn example_2_longer(rt: &impl Print) -> io::Result<()> {
     // S ⊑ P; A ⊑ ∃S; P ⊑ R
     let rules = b"\x20\x04\x80\x10\
         \x10\x00\x50\x12\
@@ -106,12 +136,13 @@ fn example_2_longer() {
         \x80\x12\x00\x05\x00\x06\
         \x00\x01\x00\x07\x00\x00";
     drawn(
+        rt,
         b"004, example 2, longer, 6 members",
         rules,
         question,
         union,
         facts,
-    );
+    )?;
     let open = b"\x00\x05\
         \x00\x00\x00\x00\x12\x00\x00\x00\x80\x44\x00\x00\x00\x01\x80\x40\x00\x00\x00\x01\
         \x40\x00\x00\x02\x11\x00\x00\x00\x80\x40\x00\x00\x00\x01\
@@ -119,18 +150,19 @@ fn example_2_longer() {
         \x40\x10\x00\x00\x11\x00\x00\x00\x80\x48\x00\x00\x00\x01\
         \x40\x20\x00\x02\x12\x00\x00\x00\x80\x40\x00\x00\x00\x01\x80\x48\x00\x00\x00\x01";
     checked(
+        rt,
         b"004, example 2, longer, without the last",
         rules,
         question,
         open,
-    );
-    written(b"004, example 2, longer, written", rules, question);
+    )?;
+    written(rt, b"004, example 2, longer, written", rules, question)
 }
 
 // All of them.
-pub fn run() {
-    example_1();
-    example_1_longer();
-    example_2();
-    example_2_longer();
+pub fn run(rt: &impl Print) -> io::Result<()> {
+    example_1(rt)?;
+    example_1_longer(rt)?;
+    example_2(rt)?;
+    example_2_longer(rt)
 }

@@ -5,7 +5,7 @@ use Rattle.words.specs.Limits.{sheet_width, most_rule_bytes, most_question_bytes
 use Rattle.promises.specs.Ascii.{ascii}
 use Rattle.promises.specs.Text.{text_for}
 use Rattle.promises.specs.Output.{output_for, error_for}
-use Rattle.io.specs.Counts.{IsPrefixLen}
+use Rattle.promises.specs.Counts.{IsPrefixLen}
 
 -- ---- names and limits
 

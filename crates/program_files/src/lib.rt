@@ -1,10 +1,15 @@
 // The sheets from their files.
 #![tactic(auto)]
 
-ghost use Rattle.std.specs.Prelude.{◌≤◌, length};
+ghost use Rattle.std.specs.Prelude.{◌≤◌, true, false, length, IfOk, OnErr};
 ghost use Rattle.program_files.specs.Files.{Reads, Grown, Taken, Rooms, Filled, TwoRooms, TwoFilled};
 
-use libc::ENOENT;
+mod failure;
+
+pub use failure::fail;
+use std::fs::{File, Files};
+use std::io;
+use std::io::{Eprint, ErrorKind, Read};
 
 // What came of reading: whether nothing failed, and how many bytes came.
 #[derive(Clone, Copy)]
@@ -14,67 +19,66 @@ pub struct Reading {
 }
 
 // One read behind the first `done` bytes of the buffer, which stay. No contract can say which bytes a read brings.
-fn read_more(fd: i32, sheet: &mut [u8], done: usize) -> Reading
+fn read_more(file: &mut impl Read, sheet: &mut [u8], done: usize) -> io::Result<usize>
     requires { done ≤ length sheet.old }
-    ensures { Grown sheet.old done sheet.new result.whole result.length }
+    ensures ok { IfOk result (λ n. Grown sheet.old done sheet.new true n) }
+    ensures err { OnErr result (Grown sheet.old done sheet.new false 0) }
 {
     let part = &mut sheet[done..];
-    let got = libc::read(fd, part);
-    let n = io::count(got, part);
-    Reading {
-        whole: got >= 0,
-        length: n,
-    }
+    file.read(part)
 }
 
 // Reads until the file ends or the buffer is full. A read may hand over fewer bytes than there are, so only a read of none is the end.
-fn read_on(fd: i32, sheet: &mut [u8]) -> Reading
-    ensures { Taken sheet.old sheet.new result.length }
+fn read_on(file: &mut impl Read, sheet: &mut [u8]) -> io::Result<usize>
+    ensures ok { IfOk result (λ n. Taken sheet.old sheet.new n) }
+    ensures err { OnErr result (Taken sheet.old sheet.new 0) }
 {
     let mut done: usize = 0;
     while done < sheet.len() {
-        let more = read_more(fd, sheet, done);
-        let n = more.length;
+        let n = read_more(file, sheet, done)?;
         if n == 0 {
-            return Reading {
-                whole: more.whole,
-                length: done,
-            };
+            break;
         }
         done += n;
     }
-    Reading {
-        whole: true,
-        length: done,
-    }
+    Ok(done)
 }
 
 // Reads the file of that name. "An absent file is empty"; one that can't be read is no sheet at all, and standard error says why.
-fn read_sheet(name: &[u8], sheet: &mut [u8]) -> Reading
+fn read_sheet<R: Files + Eprint>(rt: &R, name: &str, sheet: &mut [u8]) -> Reading
     requires { Reads name.now sheet.old }
     ensures { Taken sheet.old sheet.new result.length }
 {
-    let fd = os::open_read(name);
-    if fd < 0 {
-        let is_absent = os::errno() == ENOENT;
-        if !is_absent {
-            os::fail(name);
+    let mut file = match File::open(rt, name) {
+        Ok(file) => file,
+        Err(error) => {
+            let is_absent = error.kind() == ErrorKind::NotFound;
+            if !is_absent {
+                fail(rt, name, error);
+            }
+            return Reading {
+                whole: is_absent,
+                length: 0,
+            };
         }
-        return Reading {
-            whole: is_absent,
-            length: 0,
-        };
+    };
+    match read_on(&mut file, sheet) {
+        Ok(length) => Reading {
+            whole: true,
+            length,
+        },
+        Err(error) => {
+            fail(rt, name, error);
+            Reading {
+                whole: false,
+                length: 0,
+            }
+        }
     }
-    let read = read_on(fd, sheet);
-    if !read.whole {
-        os::fail(name);
-    }
-    libc::close(fd);
-    read
 }
 
 // The same, unless a file before it could not be read.
-fn read_next(is_whole: bool, name: &[u8], sheet: &mut [u8]) -> Reading
+fn read_next<R: Files + Eprint>(rt: &R, is_whole: bool, name: &str, sheet: &mut [u8]) -> Reading
     requires { Reads name.now sheet.old }
     ensures { Taken sheet.old sheet.new result.length }
 {
@@ -84,7 +88,7 @@ fn read_next(is_whole: bool, name: &[u8], sheet: &mut [u8]) -> Reading
             length: 0,
         };
     }
-    read_sheet(name, sheet)
+    read_sheet(rt, name, sheet)
 }
 
 // How many bytes were read of each file; `whole` says that none of them failed.
@@ -98,7 +102,8 @@ pub struct Lengths {
 }
 
 // Reads the four files, as far as the first that can't be read.
-pub fn read_files(
+pub fn read_files<R: Files + Eprint>(
+    rt: &R,
     rules: &mut [u8],
     question: &mut [u8],
     union: &mut [u8],
@@ -108,10 +113,10 @@ pub fn read_files(
     ensures { Filled rules.new result.rules question.new result.question
         union.new result.union facts.new result.facts }
 {
-    let r = read_sheet(b"rules.bin", rules);
-    let q = read_next(r.whole, b"question.bin", question);
-    let u = read_next(q.whole, b"union.bin", union);
-    let f = read_next(u.whole, b"facts.bin", facts);
+    let r = read_sheet(rt, "rules.bin", rules);
+    let q = read_next(rt, r.whole, "question.bin", question);
+    let u = read_next(rt, q.whole, "union.bin", union);
+    let f = read_next(rt, u.whole, "facts.bin", facts);
     Lengths {
         whole: f.whole,
         rules: r.length,
@@ -130,12 +135,16 @@ pub struct TwoLengths {
 }
 
 // Reads the first two files, as far as the first that can't be read.
-pub fn read_two_files(rules: &mut [u8], question: &mut [u8]) -> TwoLengths
+pub fn read_two_files<R: Files + Eprint>(
+    rt: &R,
+    rules: &mut [u8],
+    question: &mut [u8],
+) -> TwoLengths
     requires { TwoRooms rules.old question.old }
     ensures { TwoFilled rules.new result.rules question.new result.question }
 {
-    let r = read_sheet(b"rules.bin", rules);
-    let q = read_next(r.whole, b"question.bin", question);
+    let r = read_sheet(rt, "rules.bin", rules);
+    let q = read_next(rt, r.whole, "question.bin", question);
     TwoLengths {
         whole: q.whole,
         rules: r.length,

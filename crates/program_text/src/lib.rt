@@ -4,7 +4,7 @@
 ghost use Rattle.std.specs.Prelude.{◌≡◌, ◌/◌, ◌≤◌, length, take, get_or};
 ghost use Rattle.promises.specs.Text.{list_room, text_room, text_for};
 ghost use Rattle.program_files.specs.Files.{Filled, TextOf};
-ghost use Rattle.io.specs.Counts.{IsPrefixLen};
+ghost use Rattle.promises.specs.Counts.{IsPrefixLen};
 
 use answering::answer;
 use program_files::Lengths;

@@ -12,7 +12,7 @@ use Rattle.promises.specs.Output.{sheet_room, error_line, output_for, error_for}
 use Rattle.promises.specs.Writing.{UnionWritten, write_outcome}
 use Rattle.promises.proofs.Laws.Printing.{refused_report}
 use Rattle.promises.proofs.Laws.WritePromises.{size_within}
-use Rattle.io.specs.Counts.{IsPrefixLen}
+use Rattle.promises.specs.Counts.{IsPrefixLen}
 use Rattle.program_union.specs.Laws.TwoFiles.{two_files}
 
 -- ---- the line

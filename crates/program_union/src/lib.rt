@@ -4,7 +4,7 @@
 ghost use Rattle.std.specs.Prelude.{◌≡◌, ◌≤◌, length, take};
 ghost use Rattle.promises.specs.Output.{sheet_room, error_room, error_line, output_for, error_for};
 ghost use Rattle.program_files.specs.Files.{TwoFilled, OutputOf};
-ghost use Rattle.io.specs.Counts.{IsPrefixLen};
+ghost use Rattle.promises.specs.Counts.{IsPrefixLen};
 
 use program_files::TwoLengths;
 use report::put_report;

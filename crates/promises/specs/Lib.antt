@@ -5,6 +5,7 @@ pub mod Drawing
 pub mod Showing
 pub mod Writing
 pub mod Renaming
+pub mod Counts
 pub mod Ascii
 pub mod Report
 pub mod Explaining

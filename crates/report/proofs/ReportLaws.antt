@@ -8,8 +8,8 @@ use mathlib.Core.Bool.{Bool, cond}
 use mathlib.Core.List.{List, [], ◌∷◌, ◌++◌, append_assoc, append-nil}
 use lib.Dec.{eqb}
 use lib.ListN.{length, take, drop, get_or, set, length-append, length-set, length-drop}
-use lib.Seq.{take-suc-set, take-length, take_all, length-take-le, take_at}
-use borrow.Rule.Slice.PartMut.{mid_of, post_of, put_mid}
+use lib.Seq.{take-suc-set, length-take-le, take_at}
+use borrow.Rule.Slice.PartMut.{post_of, put_mid}
 use borrow.Author.Rules.{rules}
 use borrow.Author.Tests.{ne_eqb}
 use mir.Syntax.{w64}
@@ -20,8 +20,8 @@ use Rattle.promises.specs.Report.{first_line, report}
 use Rattle.promises.proofs.Laws.Printing.{refused_report, listed_report}
 use Rattle.report.specs.Put.{Put}
 use Rattle.report.specs.Laws.Decimal.{fewest_decimal, short_decimal}
-use Rattle.io.specs.Counts.{IsPrefixLen}
-use Rattle.io.specs.Digits.{last_digits, IsDigitCount}
+use Rattle.promises.specs.Counts.{IsPrefixLen}
+use Rattle.report.specs.Digits.{last_digits, IsDigitCount}
 
 -- ---- one piece
 
@@ -33,50 +33,42 @@ byte_put out end byte h = record {
   long = length-set out end byte;
 }
 
--- a copy into the part from `end` on
-module _ (out piece part : List ℕ) (end r : ℕ) (h : end + length piece ≤ length out) (e : r ≡ length piece)
-    (d : part ≡ take (length piece) piece ++ drop (length piece) (mid_of end (length out - end) out)) where
+-- a copy into the part from `end` on, which is as long as the piece
+module _ (out piece part : List ℕ) (end w : ℕ) (h : end + length piece ≤ length out) (e : part ≡ piece) (f : w ≡ length piece) where
   rest : List ℕ
-  rest = drop (length piece) (drop end out) ++ post_of end (length out - end) out
+  rest = post_of end w out
 
-  regrouped : put_mid end (length out - end) out part ≡ (take end out ++ piece) ++ rest
+  regrouped : put_mid end w out part ≡ (take end out ++ piece) ++ rest
   unfolding rest
-  regrouped =
-      let long : length (drop end out) ≡ length out - end = length-drop end out in
-      let whole : mid_of end (length out - end) out ≡ drop end out = take_all (length out - end) (drop end out) (omega arith) in
-      ap (λ l. take end out ++ (l ++ post_of end (length out - end) out))
-      (d ∙ ap₂ (λ l m. l ++ drop (length piece) m) (take-length piece) whole)
-      ∙ ap (λ l. take end out ++ l) (append_assoc piece (drop (length piece) (drop end out)) (post_of end (length out - end) out))
-      ∙ sym (append_assoc (take end out) piece (drop (length piece) (drop end out) ++ post_of end (length out - end) out))
+  regrouped = ap (λ l. take end out ++ (l ++ post_of end w out)) e ∙ sym (append_assoc (take end out) piece (post_of end w out))
 
-  length_so_far : length (take end out ++ piece) ≡ end + r
+  length_so_far : length (take end out ++ piece) ≡ end + length piece
   length_so_far =
       let a : length (take end out ++ piece) ≡ length (take end out) + length piece = length-append (take end out) piece in
       let b : length (take end out) ≡ end = length-take-le end out (omega arith) in
       omega arith
 
-  same_room : length (put_mid end (length out - end) out part) ≡ length out
+  same_room : length (put_mid end w out part) ≡ length out
   unfolding rest
   same_room =
       let a : length ((take end out ++ piece) ++ rest) ≡ length (take end out ++ piece) + length rest
       = length-append (take end out ++ piece) rest in
-      let b : length rest ≡ length (drop (length piece) (drop end out)) + length (post_of end (length out - end) out)
-      = length-append (drop (length piece) (drop end out)) (post_of end (length out - end) out) in
-      let c : length (drop (length piece) (drop end out)) ≡ length (drop end out) - length piece
-      = length-drop (length piece) (drop end out) in
-      let f : length (post_of end (length out - end) out) ≡ length (drop end out) - (length out - end)
-      = length-drop (length out - end) (drop end out) in
+      let b : length rest ≡ length (drop end out) - w = length-drop w (drop end out) in
       let g : length (drop end out) ≡ length out - end = length-drop end out in
       let k = length_so_far in
       ap length regrouped ∙ omega arith
 
-  pub copy_put : Put out end piece (put_mid end (length out - end) out part) (end + r)
-  copy_put = record {
-    text = ap (take (end + r)) regrouped ∙ take_at (take end out ++ piece) rest (end + r) length_so_far;
-    ends = ap (λ n. end + n) e;
+  put_there : Put out end piece (put_mid end w out part) (end + length piece)
+  put_there = record {
+    text = ap (take (end + length piece)) regrouped ∙ take_at (take end out ++ piece) rest (end + length piece) length_so_far;
+    ends = refl;
     within = (let k = same_room in omega arith);
     long = same_room;
   }
+
+pub copy_put : (out piece part : List ℕ) (end : ℕ) → end + length piece ≤ length out → part ≡ piece
+    → Put out end piece (put_mid end (end + length piece - end) out part) (end + length piece)
+copy_put out piece part end h e = put_there out piece part end (end + length piece - end) h e (omega arith)
 
 -- one piece behind the other
 pub both_put : (a b c p q : List ℕ) (e r s : ℕ) → Put a e p b r → Put b r q c s → Put a e (p ++ q) c s
@@ -89,14 +81,13 @@ both_put a b c p q e r s f g = record {
 
 -- ---- a number
 
-pub digits_fit : (out text : List ℕ) (end n k : ℕ) → end + length (decimal_of n) ≤ length out → IsDigitCount 10 1 n k → take k text
-    ≡ last_digits 10 k n
+pub digits_fit : (out text : List ℕ) (end n k : ℕ) → end + length (decimal_of n) ≤ length out → IsDigitCount n k → take k text ≡ last_digits k n
     → end + length (take k text) ≤ length out
 digits_fit out text end n k h f e =
     let d : length (take k text) ≡ length (decimal_of n) = ap length (e ∙ fewest_decimal n k f) in
     omega arith
 
-pub decimal_put : (out after text : List ℕ) (end n k r : ℕ) → IsDigitCount 10 1 n k → take k text ≡ last_digits 10 k n
+pub decimal_put : (out after text : List ℕ) (end n k r : ℕ) → IsDigitCount n k → take k text ≡ last_digits k n
     → Put out end (take k text) after r → Put out end (decimal_of n) after r
 decimal_put out after text end n k r f e p = subst (λ l. Put out end l after r) (e ∙ fewest_decimal n k f) p
 
@@ -181,8 +172,7 @@ line_split list from (suc k) h =
     let e : suc k - 1 ≡ k = omega arith in
     ap (λ (t : ℕ). decimal_of (object_at list from) ++ (t ∷ line (objects_at list (from + 2) k))) (separator_of list (from + 2) k)
     ∙ sym (append_assoc (decimal_of (object_at list from)) (cond (eqb (suc k) 1) newline space ∷ []) (line (objects_at list (from + 2) k)))
-    ∙ ap (λ n. (decimal_of (object_at list from) ++ (cond (eqb (suc k) 1) newline space ∷ [])) ++ line (objects_at list (from + 2) n))
-    (sym e)
+    ∙ ap (λ n. (decimal_of (object_at list from) ++ (cond (eqb (suc k) 1) newline space ∷ [])) ++ line (objects_at list (from + 2) n)) (sym e)
 
 pub line_goes_on : (list a b c whole : List ℕ) (from left e to r : ℕ) → 0 < left → Left a e whole b to (line (objects_at list from left))
     → Put b to (decimal_of (object_at list from) ++ (cond (eqb left 1) newline space ∷ [])) c r

@@ -4,9 +4,11 @@
 ghost use Rattle.std.specs.Prelude.{◌≡◌, ◌+◌, ◌*◌, ◌≤◌, ◌<◌, cond, ◌∷◌, [], ◌++◌, length, take};
 ghost use Rattle.promises.specs.Report.{decimal_of, object_at, objects_at, line, lines_at, first_line, newline, space, report as report_of};
 ghost use Rattle.report.specs.Put.{Put};
-ghost use Rattle.io.specs.Counts.{IsPrefixLen};
+ghost use Rattle.promises.specs.Counts.{IsPrefixLen};
 
-use io::decimal;
+mod number;
+
+use number::decimal;
 use read_fields::bytes::wide;
 
 // Puts the piece behind the first `end` bytes of out, and returns where it ends.
@@ -14,8 +16,9 @@ fn put(out: &mut [u8], end: usize, piece: &[u8]) -> usize
     requires { end + length piece.now ≤ length out.old }
     ensures { Put out.old end piece.now out.new result }
 {
-    let n = bytes::copy(piece, &mut out[end..]);
-    end + n
+    let to = end + piece.len();
+    out[end..to].copy_from_slice(piece);
+    to
 }
 
 // Puts one byte there.

@@ -3,9 +3,9 @@
 
 ghost use Rattle.program_files.specs.Files.{Printable};
 
-use libc::STDOUT_FILENO;
-use program_files::read_files;
+use program_files::{fail, read_files};
 use program_text::put_files;
+use std::io::{Eprint, Print};
 use words::limits::{MOST_FACT_BYTES, MOST_QUESTION_BYTES, MOST_RULE_BYTES, MOST_UNION_BYTES};
 
 // A buffer for each file has one byte more than the file's limit: a longer file fills it, and is refused for its length.
@@ -21,25 +21,24 @@ const FACTS: usize = MOST_FACT_BYTES + 1;
 const TEXT: usize = 49182;
 
 // Prints a text, in one go. Nothing else writes to standard output, and no contract can say what is written.
-fn print(text: &[u8])
+fn print(rt: &(impl Print + Eprint), text: &[u8])
     requires { Printable text.now }
 {
-    let is_written = io::write_all(STDOUT_FILENO, text);
-    if !is_written {
-        os::fail(b"standard output");
+    if let Err(error) = rt.write_all(text) {
+        fail(rt, "standard output", error);
     }
 }
 
 // Prints the text for the four files; nothing where one of them is there and can't be read.
-fn main() {
+fn main(rt: HostRuntime) {
     let mut rules = [0u8; RULES];
     let mut question = [0u8; QUESTION];
     let mut union = [0u8; UNION];
     let mut facts = [0u8; FACTS];
-    let read = read_files(&mut rules, &mut question, &mut union, &mut facts);
+    let read = read_files(&rt, &mut rules, &mut question, &mut union, &mut facts);
     if read.whole {
         let mut text = [0u8; TEXT];
         let n = put_files(&rules, &question, &union, &facts, read, &mut text);
-        print(&text[..n]);
+        print(&rt, &text[..n]);
     }
 }
