@@ -14,7 +14,7 @@ use Rattle.words.specs.Limits.{sheet_width}
 use Rattle.words.specs.Words.{rules_in}
 use Rattle.sheets.specs.Format.{term_count}
 use Rattle.sheets.specs.Partners.{partners01}
-use Rattle.sheets.specs.Reading.{rules_as_written, rules_as_read, question_as_read, union_as_read, facts_as_read}
+use Rattle.sheets.specs.Reading.{rules_as_written}
 use Rattle.sheets.specs.Refusals.{Sheets, rule_refusals, number_of}
 use Rattle.sheets.proofs.Laws.QuestionRefusals.{question_arity}
 use Rattle.promises.specs.TheSheets.{the_rules, the_question, the_union, the_facts}

@@ -1,7 +1,44 @@
 -- Digits counted from the last, and written from the last.
-use Rattle.std.proofs.Common.{◌≡◌, ℕ, zero, suc, ◌+◌, ◌-◌, ◌*◌, ◌/◌, ◌%◌, ◌^◌, ◌≤◌, ◌<◌, List, [], ◌∷◌, ◌++◌, length, take, drop, set, refl, sym, ap, subst, ◌∙◌, arith, pow-suc}
+use Rattle.std.proofs.Common.{
+  ◌≡◌,
+  ℕ,
+  zero,
+  suc,
+  ◌+◌,
+  ◌-◌,
+  ◌*◌,
+  ◌/◌,
+  ◌%◌,
+  ◌^◌,
+  ◌≤◌,
+  ◌<◌,
+  List,
+  [],
+  ◌∷◌,
+  ◌++◌,
+  length,
+  take,
+  drop,
+  set,
+  refl,
+  sym,
+  ap,
+  subst,
+  ◌∙◌,
+  arith,
+  pow-suc,
+}
 use lib.Seq.{slice, length-take-le, take-set-lt, append_snoc}
-use native.Mathlib.Nat.{le_of_suc-le-suc, not-suc-le-zero, one-le-pow, pow-le-pow_right, div-div-eq-div-mul, le-div_iff_mul-le, div-lt_iff_lt-mul, lt_of_not-le}
+use native.Mathlib.Nat.{
+  le_of_suc-le-suc,
+  not-suc-le-zero,
+  one-le-pow,
+  pow-le-pow_right,
+  div-div-eq-div-mul,
+  le-div_iff_mul-le,
+  div-lt_iff_lt-mul,
+  lt_of_not-le,
+}
 use native.Mathlib.Numerals.{add-one, sub-one}
 use Rattle.promises.specs.Counts.{IsPrefixLen}
 use Rattle.report.specs.Digits.{last_digits, IsDigitCount}

@@ -81,7 +81,8 @@ both_put a b c p q e r s f g = record {
 
 -- ---- a number
 
-pub digits_fit : (out text : List ℕ) (end n k : ℕ) → end + length (decimal_of n) ≤ length out → IsDigitCount n k → take k text ≡ last_digits k n
+pub digits_fit : (out text : List ℕ) (end n k : ℕ) → end + length (decimal_of n) ≤ length out → IsDigitCount n k → take k text
+    ≡ last_digits k n
     → end + length (take k text) ≤ length out
 digits_fit out text end n k h f e =
     let d : length (take k text) ≡ length (decimal_of n) = ap length (e ∙ fewest_decimal n k f) in
@@ -172,7 +173,8 @@ line_split list from (suc k) h =
     let e : suc k - 1 ≡ k = omega arith in
     ap (λ (t : ℕ). decimal_of (object_at list from) ++ (t ∷ line (objects_at list (from + 2) k))) (separator_of list (from + 2) k)
     ∙ sym (append_assoc (decimal_of (object_at list from)) (cond (eqb (suc k) 1) newline space ∷ []) (line (objects_at list (from + 2) k)))
-    ∙ ap (λ n. (decimal_of (object_at list from) ++ (cond (eqb (suc k) 1) newline space ∷ [])) ++ line (objects_at list (from + 2) n)) (sym e)
+    ∙ ap (λ n. (decimal_of (object_at list from) ++ (cond (eqb (suc k) 1) newline space ∷ [])) ++ line (objects_at list (from + 2) n))
+    (sym e)
 
 pub line_goes_on : (list a b c whole : List ℕ) (from left e to r : ℕ) → 0 < left → Left a e whole b to (line (objects_at list from left))
     → Put b to (decimal_of (object_at list from) ++ (cond (eqb left 1) newline space ∷ [])) c r
