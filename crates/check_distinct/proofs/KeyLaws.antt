@@ -19,7 +19,7 @@ use Rattle.words.specs.declared.QueryWords.{QueryWords}
 use Rattle.words.specs.Rows.{Rows, member_in}
 use Rattle.words.specs.Laws.Rows.{rows, union_from, next_member}
 use Rattle.query_key.specs.Key.{key}
-use Rattle.query_key.specs.KeyLaws.{unlike_keys}
+use Rattle.query_key.proofs.KeyLaws.{unlike_keys}
 use Rattle.check_chains.specs.Chains.{place_of}
 use Rattle.check_chains.specs.WalkLaws.{OnlyAt, walk_found, walk_ends, walks, is_indexed}
 use Rattle.check_distinct.specs.Keys.{Keys}

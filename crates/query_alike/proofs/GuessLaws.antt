@@ -23,7 +23,7 @@ use Rattle.words.specs.Laws.LowVariables.{atom_low}
 use Rattle.words.specs.declared.QueryWords.{QueryWords}
 use Rattle.query_sets.specs.Sets.{holds}
 use Rattle.query_key.specs.Key.{key}
-use Rattle.query_key.specs.KeyLaws.{alike_key}
+use Rattle.query_key.proofs.KeyLaws.{alike_key}
 use Rattle.query_partial.specs.Partial.{entry, may_become, Sends, Apart}
 use Rattle.query_partial.specs.SentLaws.{apart_next, apart_nothing, sent_renaming}
 use Rattle.query_partial.specs.declared.Partial.{Partial}

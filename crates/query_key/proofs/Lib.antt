@@ -1,4 +1,5 @@
 -- What the proofs of the code rest on.
+pub mod KeyLaws
 pub mod TermLaws
 pub mod LoopLaws
 pub mod RoundLaws

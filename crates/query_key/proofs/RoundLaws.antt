@@ -12,7 +12,7 @@ use Rattle.theory.proofs.Laws.Syntax.{map_atom_id, terms_answers, terms_atoms}
 use Rattle.words.specs.Words.{query_of, Small}
 use Rattle.words.specs.declared.QueryWords.{QueryWords}
 use Rattle.query_key.specs.Key.{along, mix_answer, mix_atom, given_by, colour_by, next, colours, key_by, key}
-use Rattle.query_key.specs.KeyLaws.{along_map, mix_image, given_image}
+use Rattle.query_key.proofs.KeyLaws.{along_map, mix_image, given_image}
 use Rattle.query_key.specs.Colours.{colour_in, ColoursOf}
 
 total_agrees : {X : Type 0} (w v : X → ℕ) (xs : List X) → ((x : X) → x ∈ xs → w x ≡ v x) → total w xs ≡ total v xs

@@ -1,4 +1,3 @@
--- A key that alike queries share: the definition, the law, and what the code's words hold.
+-- A key that alike queries share: the definition, and what the code's words hold. The law is in proofs/KeyLaws.
 pub mod Key
-pub mod KeyLaws
 pub mod Colours
