@@ -81,14 +81,14 @@ both_put a b c p q e r s f g = record {
 
 -- ---- a number
 
-pub digits_fit : (out text : List ℕ) (end n k : ℕ) → end + length (decimal_of n) ≤ length out → IsDigitCount n k → take k text
-    ≡ last_digits k n
+pub digits_fit : (out text : List ℕ) (end n k : ℕ) → end + length (decimal_of n) ≤ length out → IsDigitCount 10 1 n k → take k text
+    ≡ last_digits 10 k n
     → end + length (take k text) ≤ length out
 digits_fit out text end n k h f e =
     let d : length (take k text) ≡ length (decimal_of n) = ap length (e ∙ fewest_decimal n k f) in
     omega arith
 
-pub decimal_put : (out after text : List ℕ) (end n k r : ℕ) → IsDigitCount n k → take k text ≡ last_digits k n
+pub decimal_put : (out after text : List ℕ) (end n k r : ℕ) → IsDigitCount 10 1 n k → take k text ≡ last_digits 10 k n
     → Put out end (take k text) after r → Put out end (decimal_of n) after r
 decimal_put out after text end n k r f e p = subst (λ l. Put out end l after r) (e ∙ fewest_decimal n k f) p
 

@@ -5,7 +5,7 @@ ghost use Rattle.report.specs.Digits.{last_digits, IsDigitCount};
 
 // How many digits n takes.
 fn digit_count(n: u64) -> usize
-    ensures { IsDigitCount n result }
+    ensures { IsDigitCount 10 1 n result }
 {
     let mut k = 1;
     let mut rest = n / 10;
@@ -27,7 +27,7 @@ fn digit_code(d: u64) -> u8
 // Puts the last k digits of n at the start of out.
 fn write_digits(n: u64, k: usize, out: &mut [u8])
     requires { k ≤ length out.old }
-    ensures digits { take k out.new ≡ last_digits k n }
+    ensures digits { take k out.new ≡ last_digits 10 k n }
     ensures rest { drop k out.new ≡ drop k out.old }
 {
     let mut i = k;
@@ -42,8 +42,8 @@ fn write_digits(n: u64, k: usize, out: &mut [u8])
 // Puts n's digits at the start of out, and returns how many there are.
 pub(crate) fn decimal(n: u64, out: &mut [u8; 20]) -> usize
     ensures in_bounds { IsPrefixLen result out.new }
-    ensures len { IsDigitCount n result }
-    ensures digits { take result out.new ≡ last_digits result n }
+    ensures len { IsDigitCount 10 1 n result }
+    ensures digits { take result out.new ≡ last_digits 10 result n }
     ensures rest { drop result out.new ≡ drop result out.old }
 {
     let k = digit_count(n);

@@ -22,10 +22,13 @@ use Rattle.std.specs.Prelude.{
   ltb,
   length,
 }
-use Rattle.std.proofs.Common.{sym, ap, ◌∙◌, subst, pow-suc, arith, length-append, lt-ltb, le-ltb}
+use Rattle.std.proofs.Common.{sym, ap, ap₂, ◌∙◌, subst, pow-suc, arith, length-append, lt-ltb, le-ltb}
 use Rattle.std.proofs.Math.Nat.{one-le-pow}
 use Rattle.promises.specs.Report.{decimal_in, decimal_of}
-use Rattle.report.specs.Digits.{last_digits, IsDigitCount}
+use Rattle.report.specs.Digits.{hex_digit_ascii, last_digits, IsDigitCount}
+
+pub glyph_digit : (d : ℕ) → d < 10 → hex_digit_ascii d ≡ 48 + d
+glyph_digit d h = ap (λ (b : Bool). cond b (48 + d) (87 + d)) (lt-ltb d 10 h)
 
 -- one digit, or more than one
 few : (most n : ℕ) → n < 10 → decimal_in (suc most) n ≡ (48 + n) ∷ []
@@ -37,11 +40,11 @@ unfolding decimal_in
 more most n h = ap (λ (b : Bool). cond b ((48 + n) ∷ []) (decimal_in most (n / 10) ++ ((48 + n % 10) ∷ []))) (le-ltb n 10 h)
 
 -- the last k + 1 digits of a number that takes exactly k + 1
-exactly : (k most n : ℕ) → k < most → n < 10 ^ suc k → (0 < k → 10 ^ k ≤ n) → last_digits (suc k) n ≡ decimal_in most n
+exactly : (k most n : ℕ) → k < most → n < 10 ^ suc k → (0 < k → 10 ^ k ≤ n) → last_digits 10 (suc k) n ≡ decimal_in most n
 exactly zero (suc most) n h below above =
     let b : n < 10 = below in
     let e : n % 10 ≡ n = omega arith in
-    ap (λ d. (48 + d) ∷ []) e ∙ sym (few most n b)
+    ap (λ d. d ∷ []) (ap hex_digit_ascii e ∙ glyph_digit n b) ∙ sym (few most n b)
 exactly (suc k) (suc most) n h below above =
     let a : 10 ^ suc k ≤ n = above (omega arith) in
     let p : 10 ^ suc k ≡ 10 ^ k * 10 = pow-suc 10 k in
@@ -49,8 +52,9 @@ exactly (suc k) (suc most) n h below above =
     let one : 1 ≤ 10 ^ k = one-le-pow k 10 (omega arith) in
     let b : n / 10 < 10 ^ suc k = omega arith in
     let c : 10 ^ k ≤ n / 10 = omega arith in
+    let g : n % 10 < 10 = omega arith in
     let ten : 10 ≤ n = omega arith in
-    ap (λ l. l ++ ((48 + n % 10) ∷ [])) (exactly k most (n / 10) (omega arith) b (λ _. c)) ∙ sym (more most n ten)
+    ap₂ ◌++◌ (exactly k most (n / 10) (omega arith) b (λ _. c)) (ap (λ d. d ∷ []) (glyph_digit (n % 10) g)) ∙ sym (more most n ten)
 exactly k zero n h below above = absurd (omega arith)
 
 -- so many digits as a number below 10 ^ k has are at most k
@@ -80,7 +84,7 @@ enough (suc k) n h =
     omega arith
 
 -- The digits that `decimal` writes, the fewest that hold the number, are the number in decimal.
-pub fewest_decimal : (n r : ℕ) → IsDigitCount n r → last_digits r n ≡ decimal_of n
+pub fewest_decimal : (n r : ℕ) → IsDigitCount 10 1 n r → last_digits 10 r n ≡ decimal_of n
 unfolding decimal_of
 fewest_decimal n zero (least, below, above) = absurd (omega arith)
 fewest_decimal n (suc zero) (least, below, above) = exactly zero (suc n) n (omega arith) below (λ h. absurd (omega arith))

@@ -8,7 +8,7 @@ use Rattle.report.proofs.number.write_digits.Goals as goal
 pub loop-i-init : goal.loop-i-init
 loop-i-init c =
     let a = c.args in
-    let all = last_digits a.k a.n in
+    let all = last_digits 10 a.k a.n in
     (refl, le_refl a.k, ap (λ (l : List ℕ). all ++ l) (slice_empty a.k a.out.now) ∙ append-nil all, refl)
 
 pub loop-i-preserved : goal.loop-i-preserved
