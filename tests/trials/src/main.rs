@@ -129,7 +129,7 @@ fn run(seed: u64, cases: u64) -> bool {
         tally.compare_answer(&card.name, &card.sheets, &card.expected, &mut chance);
         tally.compare_members(&card.name, &card.sheets, &mut chance);
         tally.compare_write(&card.name, &card.sheets, &mut chance);
-        tally.compare_explain(&card.name, &card.sheets, &mut chance);
+        tally.compare_explain(&card.name, &card.sheets, &mut Chance::new(seed));
     }
     println!("seed {seed}, {cases} cases");
     for case in 0..cases {
