@@ -258,14 +258,13 @@ unless_sound ps s table e = absurd (subst T (sym e) tt)
 
 -- ---- the sheet's refusals
 
-pub facts_refused : (ps s table : List ℕ) (number count k : ℕ) → number ≡ k → leb 1 k ≡ true
-    → k ≡ number_of (first_refusal (fact_refusals sheet_width s))
-    → count ≡ 0 → FactsRead ps s table number count
-facts_refused ps s table number count k e some is z = record {
+pub facts_refused : (ps s table : List ℕ) (k : ℕ) → leb 1 k ≡ true → k ≡ number_of (first_refusal (fact_refusals sheet_width s))
+    → FactsRead ps s table k 0
+facts_refused ps s table k some is = record {
   sheet =
       sheet_refused (number_of (first_refusal (fact_refusals sheet_width s))) (facts_as_read ps sheet_width s) (facts_in table) most_facts
-      number count k e some is z;
-  words = subst (FactWords table) (sym z) (no_words table);
+      k 0 k refl some is refl;
+  words = no_words table;
 }
 
 module _ (s : List ℕ) where

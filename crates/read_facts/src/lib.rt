@@ -6,6 +6,7 @@ ghost use Rattle.theory.specs.Lists.{all};
 ghost use Rattle.words.specs.FactWords.{FactWord};
 ghost use Rattle.words.specs.Limits.{sheet_width, object_bound, name_bound, sheet_record_bound, most_facts, record_bytes};
 ghost use Rattle.words.specs.Records.{fact_name, fact_of};
+ghost use Rattle.words.specs.Refusals.{number_in, count_in};
 ghost use Rattle.words.specs.Words.{word_fact};
 ghost use Rattle.sheets.specs.Format.{fact_records};
 ghost use Rattle.sheets.specs.Partners.{is_higher, atom_as_read};
@@ -15,8 +16,8 @@ ghost use Rattle.read_facts.specs.FactSheets.{FactsRead, HoldsFacts, Widened, Ha
 use read_fields::bytes::six;
 use read_fields::fields::{fact_first, fact_kind, fact_name, fact_second, fact_zeros};
 use read_records::partners::{is_higher, lower};
-use read_records::{SheetRead, refused};
 use words::limits::{FACT_BYTES, MOST_FACT_BYTES};
+use words::refusals::Refusal;
 
 // Whether the record's three zero bits are zero, and a concept's second object too; no branch goes by the kind, which is hard to foresee.
 fn fact_sound(x: u64) -> bool
@@ -79,36 +80,30 @@ fn fill_facts(s: &[u8], partners: &[u16], table: &mut [u64]) -> bool
         × (result ≡ all (fact_sound sheet_width) (fact_records sheet_width s.now))
         × (result ≡ true → HoldsFacts partners.now s.now table.new) }
 {
-    let n = s.len() / FACT_BYTES;
-    let mut i: usize = 0;
-    while i < n {
+    for i in 0..s.len() / FACT_BYTES {
         let x = six(s, FACT_BYTES * i);
         if !fact_sound(x) {
             return false;
         }
         table[i] = fact_word(x, partners);
-        i += 1;
     }
     true
 }
 
 // Reads the fact sheet into the table, or gives the number of its first refusal and the count 0.
-pub fn read_facts(s: &[u8], partners: &[u16], table: &mut [u64]) -> SheetRead
+pub fn read_facts(s: &[u8], partners: &[u16], table: &mut [u64]) -> Result<usize, Refusal>
     requires { most_facts ≤ length table.old }
     ensures kept { length table.new ≡ length table.old }
-    ensures facts { FactsRead partners.now s.now table.new result.number result.count }
+    ensures facts { FactsRead partners.now s.now table.new (number_in result) (count_in result) }
 {
     if s.len() % FACT_BYTES != 0 {
-        return refused(12);
+        return Err(Refusal::FactSheetLength);
     }
     if s.len() > MOST_FACT_BYTES {
-        return refused(12);
+        return Err(Refusal::FactSheetLength);
     }
     if !fill_facts(s, partners, table) {
-        return refused(13);
+        return Err(Refusal::FactMalformed);
     }
-    SheetRead {
-        number: 0,
-        count: s.len() / FACT_BYTES,
-    }
+    Ok(s.len() / FACT_BYTES)
 }

@@ -4,4 +4,5 @@ pub mod Records
 pub mod Words
 pub mod Rows
 pub mod FactWords
+pub mod Refusals
 pub mod Laws

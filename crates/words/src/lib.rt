@@ -4,6 +4,7 @@
 pub mod facts;
 pub mod limits;
 pub mod lost_tags;
+pub mod refusals;
 pub mod rows;
 pub mod rules;
 pub mod steps;

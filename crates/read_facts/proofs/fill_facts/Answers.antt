@@ -29,12 +29,6 @@ offset_bounds-table-i c = search laws
 pub bounds-table-i : goal.bounds-table-i
 bounds-table-i c = search laws
 
-pub overflow_add-i : goal.overflow_add-i
-overflow_add-i c = search laws
-
-pub loop-i-smaller : goal.loop-i-smaller
-loop-i-smaller c = search laws
-
 pub loop-i-preserved : goal.loop-i-preserved
 loop-i-preserved c = search laws
 
