@@ -12,20 +12,10 @@ fn print(rt: &impl Print, text: &[u8]) -> io::Result<()> {
     rt.write_all(text)
 }
 
-// A number as it is, with room for more.
-fn wide(x: u32) -> u64 {
-    x as u64
-}
-
-// A byte as it is, with room for more.
-fn byte(x: u8) -> u64 {
-    x as u64
-}
-
 // Prints the bytes in hexadecimal.
 fn print_bytes(rt: &impl Print, bytes: &[u8]) -> io::Result<()> {
     for x in bytes {
-        print!(rt; "{:02x}", byte(*x))?;
+        print!(rt; "{:02x}", *x)?;
     }
     Ok(())
 }
@@ -44,7 +34,7 @@ pub fn drawn(
     print(rt, name)?;
     print!(rt;
         ": number {}, count {}, list ",
-        wide(answers.number),
+        answers.number,
         answers.count
     )?;
     print_bytes(rt, &list)?;
@@ -61,14 +51,14 @@ pub fn checked(
 ) -> io::Result<()> {
     let number = check(rules, question, union);
     print(rt, name)?;
-    println!(rt; ": number {}", wide(number))
+    println!(rt; ": number {}", number)
 }
 
 // Prints what a call that writes a union gave beside the sheet.
 fn print_made(rt: &impl Print, made: Written) -> io::Result<()> {
     print!(rt;
         ": number {}, count {}, length {}",
-        wide(made.number),
+        made.number,
         made.count,
         made.length
     )
@@ -78,7 +68,7 @@ fn print_made(rt: &impl Print, made: Written) -> io::Result<()> {
 fn print_union(rt: &impl Print, rules: &[u8], question: &[u8], union: &[u8]) -> io::Result<()> {
     print(rt, b", union ")?;
     print_bytes(rt, union)?;
-    println!(rt; ", checked {}", wide(check(rules, question, union)))
+    println!(rt; ", checked {}", check(rules, question, union))
 }
 
 // Prints the union at the beginning of a sheet; nothing if it were longer than the sheet, which no union that was written is.

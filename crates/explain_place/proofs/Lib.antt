@@ -1,3 +1,2 @@
--- A place of a list of steps: what is put and read, field by field and target by target.
-pub mod TargetLaws
+-- A place of a list of steps: what is read, field by field.
 pub mod FieldLaws

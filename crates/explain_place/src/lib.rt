@@ -6,7 +6,6 @@ ghost use Rattle.std.proofs.Math.Seq.{paste};
 ghost use Rattle.words.specs.Limits.{place_size};
 ghost use Rattle.explain_place.specs.Places.{head_bytes, bytes_of_place, place_at, no_place, place_in};
 
-use read_fields::bytes::two;
 use words::limits::PLACE_BYTES;
 
 // The number of the member, the step written beside it, and where each variable of the step's result goes, or 32. Laid out as in C, since
@@ -22,31 +21,16 @@ pub struct Place {
     pub targets: [u8; 32],
 }
 
-// Puts all but the targets at the beginning of the part.
-fn put_head(part: &mut [u8], place: Place)
-    requires { place_size ≤ length part.old }
-    ensures { part.new ≡ head_bytes place ++ drop 8 part.old }
+// All but the targets, in eight bytes.
+fn head(place: Place) -> [u8; 8]
+    ensures { result ≡ head_bytes place }
 {
-    part[0] = (place.member / 256) as u8;
-    part[1] = (place.member % 256) as u8;
-    part[2] = place.kind;
-    part[3] = (place.parent / 256) as u8;
-    part[4] = (place.parent % 256) as u8;
-    part[5] = place.atom;
-    part[6] = (place.other / 256) as u8;
-    part[7] = (place.other % 256) as u8;
-}
-
-// Puts the targets after the first eight bytes of the part.
-fn put_targets(part: &mut [u8], targets: [u8; 32])
-    requires { place_size ≤ length part.old }
-    ensures { part.new ≡ paste part.old 8 targets 32 }
-{
-    let mut i: usize = 0;
-    while i < 32 {
-        part[8 + i] = targets[i];
-        i += 1;
-    }
+    let member = place.member.to_be_bytes();
+    let parent = place.parent.to_be_bytes();
+    let other = place.other.to_be_bytes();
+    [
+        member[0], member[1], place.kind, parent[0], parent[1], place.atom, other[0], other[1],
+    ]
 }
 
 // Puts the place at the beginning of the part.
@@ -54,23 +38,8 @@ pub fn put_place(part: &mut [u8], place: Place)
     requires { place_size ≤ length part.old }
     ensures { part.new ≡ bytes_of_place place ++ drop place_size part.old }
 {
-    let targets = place.targets;
-    put_head(part, place);
-    put_targets(part, targets);
-}
-
-// The 32 targets from `at` on.
-fn targets_at(bytes: &[u8], at: usize) -> [u8; 32]
-    requires { at + 32 ≤ length bytes.now }
-    ensures { result ≡ take 32 (drop at bytes.now) }
-{
-    let mut targets = [0u8; 32];
-    let mut i: usize = 0;
-    while i < 32 {
-        targets[i] = bytes[at + i];
-        i += 1;
-    }
-    targets
+    part[..8].copy_from_slice(&head(place));
+    part[8..PLACE_BYTES].copy_from_slice(&place.targets);
 }
 
 // The place in the 40 bytes from `at` on.
@@ -78,13 +47,14 @@ pub fn place_at(bytes: &[u8], at: usize) -> Place
     requires { at + place_size ≤ length bytes.now }
     ensures { result ≡ place_at bytes.now at }
 {
-    let targets = targets_at(bytes, at + 8);
+    let mut targets = [0u8; 32];
+    targets.copy_from_slice(&bytes[at + 8..at + PLACE_BYTES]);
     Place {
-        member: two(bytes, at) as u16,
+        member: u16::from_be_bytes([bytes[at], bytes[at + 1]]),
         kind: bytes[at + 2],
-        parent: two(bytes, at + 3) as u16,
+        parent: u16::from_be_bytes([bytes[at + 3], bytes[at + 4]]),
         atom: bytes[at + 5],
-        other: two(bytes, at + 6) as u16,
+        other: u16::from_be_bytes([bytes[at + 6], bytes[at + 7]]),
         targets,
     }
 }
@@ -93,14 +63,13 @@ pub fn place_at(bytes: &[u8], at: usize) -> Place
 fn no_place() -> Place
     ensures { result ≡ no_place }
 {
-    let targets = [0u8; 32];
     Place {
         member: 0,
         kind: 0,
         parent: 0,
         atom: 0,
         other: 0,
-        targets,
+        targets: [0; 32],
     }
 }
 

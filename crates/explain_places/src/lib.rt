@@ -1,5 +1,5 @@
-// 02, T-06: "fill a lent list of steps": the lent places filled from packed bytes. A slice of structs is what 01 asks for; its proof is a
-// walk of the code by hand. The work for one place is `place_in`.
+// 02, T-06: "fill a lent list of steps": the lent places filled from packed bytes. A slice of structs is what 01 asks for. The work for one
+// place is `place_in`.
 #![tactic(auto)]
 
 ghost use Rattle.std.specs.Prelude.{◌≡◌, ◌*◌, ◌≤◌, length};
@@ -13,9 +13,7 @@ pub fn fill_places(packed: &[u8], n: u64, steps: &mut [Place])
     requires { place_size * n ≤ length packed.now }
     ensures { steps.new ≡ places_in packed.now n (length steps.old) }
 {
-    let mut i = 0;
-    while i < steps.len() {
-        steps[i] = place_in(packed, n, i);
-        i = i + 1;
+    for (i, place) in steps.iter_mut().enumerate() {
+        *place = place_in(packed, n, i);
     }
 }
