@@ -3,6 +3,7 @@
 
 ghost use Rattle.std.specs.Prelude.{◌≤◌, true, false, length, IfOk, OnErr};
 ghost use Rattle.program_files.specs.Files.{Reads, Grown, Taken, Rooms, Filled, TwoRooms, TwoFilled};
+ghost use Rattle.program_files.specs.Read.{length_in, lengths_in, two_lengths_in};
 
 mod failure;
 
@@ -10,13 +11,6 @@ pub use failure::fail;
 use std::fs::{File, Files};
 use std::io;
 use std::io::{Eprint, ErrorKind, Read};
-
-// What came of reading: whether nothing failed, and how many bytes came.
-#[derive(Clone, Copy)]
-pub struct Reading {
-    pub whole: bool,
-    pub length: usize,
-}
 
 // One read behind the first `done` bytes of the buffer, which stay. No contract can say which bytes a read brings.
 fn read_more(file: &mut impl Read, sheet: &mut [u8], done: usize) -> io::Result<usize>
@@ -45,56 +39,32 @@ fn read_on(file: &mut impl Read, sheet: &mut [u8]) -> io::Result<usize>
 }
 
 // Reads the file of that name. "An absent file is empty"; one that can't be read is no sheet at all, and standard error says why.
-fn read_sheet<R: Files + Eprint>(rt: &R, name: &str, sheet: &mut [u8]) -> Reading
+fn read_sheet<R: Files + Eprint>(rt: &R, name: &str, sheet: &mut [u8]) -> Option<usize>
     requires { Reads name.now sheet.old }
-    ensures { Taken sheet.old sheet.new result.length }
+    ensures { Taken sheet.old sheet.new (length_in result) }
 {
     let mut file = match File::open(rt, name) {
         Ok(file) => file,
         Err(error) => {
-            let is_absent = error.kind() == ErrorKind::NotFound;
-            if !is_absent {
-                fail(rt, name, error);
+            if error.kind() == ErrorKind::NotFound {
+                return Some(0);
             }
-            return Reading {
-                whole: is_absent,
-                length: 0,
-            };
+            fail(rt, name, error);
+            return None;
         }
     };
     match read_on(&mut file, sheet) {
-        Ok(length) => Reading {
-            whole: true,
-            length,
-        },
+        Ok(length) => Some(length),
         Err(error) => {
             fail(rt, name, error);
-            Reading {
-                whole: false,
-                length: 0,
-            }
+            None
         }
     }
 }
 
-// The same, unless a file before it could not be read.
-fn read_next<R: Files + Eprint>(rt: &R, is_whole: bool, name: &str, sheet: &mut [u8]) -> Reading
-    requires { Reads name.now sheet.old }
-    ensures { Taken sheet.old sheet.new result.length }
-{
-    if !is_whole {
-        return Reading {
-            whole: false,
-            length: 0,
-        };
-    }
-    read_sheet(rt, name, sheet)
-}
-
-// How many bytes were read of each file; `whole` says that none of them failed.
+// How many bytes were read of each file.
 #[derive(Clone, Copy)]
 pub struct Lengths {
-    pub whole: bool,
     pub rules: usize,
     pub question: usize,
     pub union: usize,
@@ -108,28 +78,22 @@ pub fn read_files<R: Files + Eprint>(
     question: &mut [u8],
     union: &mut [u8],
     facts: &mut [u8],
-) -> Lengths
+) -> Option<Lengths>
     requires { Rooms rules.old question.old union.old facts.old }
-    ensures { Filled rules.new result.rules question.new result.question
-        union.new result.union facts.new result.facts }
+    ensures { Filled rules.new (lengths_in result).rules question.new (lengths_in result).question
+        union.new (lengths_in result).union facts.new (lengths_in result).facts }
 {
-    let r = read_sheet(rt, "rules.bin", rules);
-    let q = read_next(rt, r.whole, "question.bin", question);
-    let u = read_next(rt, q.whole, "union.bin", union);
-    let f = read_next(rt, u.whole, "facts.bin", facts);
-    Lengths {
-        whole: f.whole,
-        rules: r.length,
-        question: q.length,
-        union: u.length,
-        facts: f.length,
-    }
+    Some(Lengths {
+        rules: read_sheet(rt, "rules.bin", rules)?,
+        question: read_sheet(rt, "question.bin", question)?,
+        union: read_sheet(rt, "union.bin", union)?,
+        facts: read_sheet(rt, "facts.bin", facts)?,
+    })
 }
 
-// How many bytes were read of the rules and of the question; `whole` says that neither failed.
+// How many bytes were read of the rules and of the question.
 #[derive(Clone, Copy)]
 pub struct TwoLengths {
-    pub whole: bool,
     pub rules: usize,
     pub question: usize,
 }
@@ -139,15 +103,12 @@ pub fn read_two_files<R: Files + Eprint>(
     rt: &R,
     rules: &mut [u8],
     question: &mut [u8],
-) -> TwoLengths
+) -> Option<TwoLengths>
     requires { TwoRooms rules.old question.old }
-    ensures { TwoFilled rules.new result.rules question.new result.question }
+    ensures { TwoFilled rules.new (two_lengths_in result).rules question.new (two_lengths_in result).question }
 {
-    let r = read_sheet(rt, "rules.bin", rules);
-    let q = read_next(rt, r.whole, "question.bin", question);
-    TwoLengths {
-        whole: q.whole,
-        rules: r.length,
-        question: q.length,
-    }
+    Some(TwoLengths {
+        rules: read_sheet(rt, "rules.bin", rules)?,
+        question: read_sheet(rt, "question.bin", question)?,
+    })
 }

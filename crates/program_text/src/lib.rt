@@ -8,7 +8,6 @@ ghost use Rattle.promises.specs.Counts.{IsPrefixLen};
 
 use answering::answer;
 use program_files::Lengths;
-use read_fields::bytes::wide;
 use report::put_report;
 
 // "Its answer list has 16,384 bytes."
@@ -18,10 +17,10 @@ const LIST: usize = 16384;
 fn term_count(question: &[u8]) -> usize
     ensures { result ≡ get_or question.now 0 0 / 16 }
 {
-    if question.len() == 0 {
-        return 0;
+    match question.first() {
+        Some(first) => usize::from(*first) / 16,
+        None => 0,
     }
-    (wide(question[0]) / 16) as usize
 }
 
 // Draws the answers into the list, and puts the program's text for them at the start of `text`; returns its length.
@@ -65,15 +64,11 @@ pub fn put_files(
     ensures within { IsPrefixLen result text.new }
 {
     let mut list = [0u8; LIST];
-    let r = read.rules;
-    let q = read.question;
-    let u = read.union;
-    let f = read.facts;
     put_answers(
-        &rules[..r],
-        &question[..q],
-        &union[..u],
-        &facts[..f],
+        &rules[..read.rules],
+        &question[..read.question],
+        &union[..read.union],
+        &facts[..read.facts],
         &mut list,
         text,
     )

@@ -61,7 +61,5 @@ pub fn put_output(
         (take result.output sheet.new) (take result.error text.new) }
     ensures within { IsPrefixLen result.output sheet.new × IsPrefixLen result.error text.new }
 {
-    let r = read.rules;
-    let q = read.question;
-    put_written(&rules[..r], &question[..q], sheet, text)
+    put_written(&rules[..read.rules], &question[..read.question], sheet, text)
 }

@@ -35,8 +35,7 @@ fn main(rt: HostRuntime) {
     let mut question = [0u8; QUESTION];
     let mut union = [0u8; UNION];
     let mut facts = [0u8; FACTS];
-    let read = read_files(&rt, &mut rules, &mut question, &mut union, &mut facts);
-    if read.whole {
+    if let Some(read) = read_files(&rt, &mut rules, &mut question, &mut union, &mut facts) {
         let mut text = [0u8; TEXT];
         let n = put_files(&rules, &question, &union, &facts, read, &mut text);
         print(&rt, &text[..n]);

@@ -37,14 +37,11 @@ fn say_refused(rt: &HostRuntime, text: &[u8])
 fn main(rt: HostRuntime) {
     let mut rules = [0u8; RULES];
     let mut question = [0u8; QUESTION];
-    let read = read_two_files(&rt, &mut rules, &mut question);
-    if read.whole {
+    if let Some(read) = read_two_files(&rt, &mut rules, &mut question) {
         let mut sheet = [0u8; MOST_UNION_BYTES];
         let mut text = [0u8; TEXT];
         let out = put_output(&rules, &question, read, &mut sheet, &mut text);
-        let n = out.output;
-        let e = out.error;
-        hand_out(&rt, &sheet[..n]);
-        say_refused(&rt, &text[..e]);
+        hand_out(&rt, &sheet[..out.output]);
+        say_refused(&rt, &text[..out.error]);
     }
 }
