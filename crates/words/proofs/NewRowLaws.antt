@@ -1,4 +1,4 @@
--- A member's row of words is made, and put into a table.
+-- A member's row of words is made.
 use mathlib.Core.Path.{◌≡◌, refl, sym, ap, ◌∙◌}
 use Prim.Native.Nat.{ℕ, zero, suc, ◌+◌, ◌≤◌, ◌<◌}
 use native.Mathlib.Numerals.{add-one}
@@ -60,25 +60,4 @@ module _ (step : ℕ) (q : QueryWords) (four : length q.answers ≡ most_terms) 
     narrow = record { few_terms = few; few_atoms = small; answer_words = answer_words };
   }
 
--- ---- a row put into a table
-
-pub none_put : (t : List ℕ) (at : ℕ) (row : List ℕ) → t ≡ paste t at row 0
-none_put t at row = paste-zero t at row
-
-module _ (t : List ℕ) (at : ℕ) (row table : List ℕ) (k : ℕ) (full : length row ≡ stride) (room : at + stride ≤ length t)
-    (e : table ≡ paste t at row k) where
-  pub put_length : k ≤ stride → length table ≡ length t
-  put_length h = ap length e ∙ length-paste t at row k (omega arith) (omega arith)
-
-  pub put_room : k < stride → at + k < length table
-  put_room h = let d : length table ≡ length t = put_length (omega arith) in omega arith
-
-  pub one_put : k < stride → set table (at + k) (get_or row k 0) ≡ paste t at row (k + 1)
-  one_put h =
-      ap (λ l. set l (at + k) (get_or row k 0)) e ∙ paste-suc t at row k 0 (omega arith) (omega arith)
-      ∙ ap (paste t at row) (sym (add-one k))
-
-  pub all_put : k ≤ stride → stride ≤ k → table ≡ paste t at row stride
-  all_put h g = let d : k ≡ stride = omega arith in e ∙ ap (paste t at row) d
-
-pub ruleset laws = (rules, row_of, none_put, put_length, put_room, one_put, all_put)
+pub ruleset laws = (rules, row_of)

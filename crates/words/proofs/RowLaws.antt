@@ -17,24 +17,6 @@ use Rattle.words.specs.declared.QueryWords.{QueryWords}
 use Rattle.words.specs.Limits.{word_term_bound}
 use Rattle.words.specs.Rows.{Row, row_at, member_in}
 
--- ---- words in a row
-
-module _ (l : List ℕ) (at : ℕ) where
-  pub four_words : at + 4 ≤ length l → get_or l at 0 ∷ get_or l (at + 1) 0 ∷ get_or l (at + 2) 0 ∷ get_or l (at + 3) 0 ∷ []
-      ≡ take 4 (drop at l)
-  unfolding numbers
-  four_words h = sym (listed l at 4 h ∙ ap (λ a. get_or l a 0 ∷ get_or l (at + 1) 0 ∷ get_or l (at + 2) 0 ∷ get_or l (at + 3) 0 ∷ [])
-      (add-zero at))
-
-  pub eight_words : at + 8 ≤ length l
-      → get_or l at 0 ∷ get_or l (at + 1) 0 ∷ get_or l (at + 2) 0 ∷ get_or l (at + 3) 0
-      ∷ get_or l (at + 4) 0 ∷ get_or l (at + 5) 0 ∷ get_or l (at + 6) 0 ∷ get_or l (at + 7) 0 ∷ [] ≡ take 8 (drop at l)
-  unfolding numbers
-  eight_words h =
-      sym (listed l at 8 h
-      ∙ ap (λ a. get_or l a 0 ∷ get_or l (at + 1) 0 ∷ get_or l (at + 2) 0 ∷ get_or l (at + 3) 0
-      ∷ get_or l (at + 4) 0 ∷ get_or l (at + 5) 0 ∷ get_or l (at + 6) 0 ∷ get_or l (at + 7) 0 ∷ []) (add-zero at))
-
 -- ---- a member's question
 
 module _ (table : List ℕ) (j : ℕ) (answers atoms : List ℕ) (row : Row (row_at table j)) (a : answers ≡ take 4 (drop (16 * j + 2) table))
@@ -79,4 +61,4 @@ module _ (table : List ℕ) (j : ℕ) (answers atoms : List ℕ) (row : Row (row
     variables = subst (λ q. (v : ℕ) → var v ∈ terms q → v < 32) (sym loaded) row.variables;
   }
 
-pub ruleset laws = (rules, four_words, eight_words, loaded, loaded_small)
+pub ruleset laws = (rules, loaded, loaded_small)

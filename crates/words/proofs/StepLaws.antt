@@ -1,32 +1,37 @@
 -- A step all of whose fields are zero, and the word of a step.
-use mathlib.Core.Path.{◌≡◌, sym}
+use mathlib.Core.Path.{◌≡◌, sym, ◌∙◌}
 use Prim.Native.Nat.{ℕ, ◌+◌, ◌*◌, ◌<◌}
 use native.Mathlib.Omega.{arith}
-use mathlib.Core.Bool.{false, and-false}
+use mathlib.Core.Bool.{Bool, true, false, and-false}
 use lib.Dec.{eqb}
 use borrow.Author.Rules.{rules}
-use borrow.Author.Tests.{eq-eqb, ne_eqb}
+use borrow.Author.Tests.{eq-eqb, ne_eqb, eqb-true}
 use Rattle.theory.specs.Union.{zero_step}
 use Rattle.words.specs.Records.{step_kind, step_parent, step_atom, step_other, step_of}
 
+-- a field tested before is not zero
+pub not_zero : (v : Bool) (k : ℕ) → v ≡ eqb k 0 → (k ≡ 0 → ⊥) → v ≡ true → ⊥
+not_zero v k e d t = d (eqb-true k 0 (sym e ∙ t))
+
 module _ (x k : ℕ) (kx : k ≡ step_kind x) where
-  pub has_kind : (k ≡ 0 → ⊥) → false ≡ zero_step (step_of x)
+  pub has_kind : (v : Bool) → v ≡ eqb k 0 → (k ≡ 0 → ⊥) → v ≡ zero_step (step_of x)
   unfolding zero_step step_of
-  has_kind d = sym (simp (sym kx, ne_eqb k 0 d))
+  has_kind v e d = e ∙ ne_eqb k 0 d ∙ sym (simp (sym kx, ne_eqb k 0 d))
 
-  module _ (p : ℕ) (px : p ≡ step_parent x) where
-    pub has_parent : (p ≡ 0 → ⊥) → false ≡ zero_step (step_of x)
+  module _ (p : ℕ) (v : Bool) (px : p ≡ step_parent x) (vp : v ≡ eqb p 0) where
+    pub has_parent : v ≡ false → v ≡ zero_step (step_of x)
     unfolding zero_step step_of
-    has_parent d = sym (simp (sym px, ne_eqb p 0 d, and-false))
+    has_parent f = f ∙ sym (simp (sym px, sym vp ∙ f, and-false))
 
-    module _ (a : ℕ) (ax : a ≡ step_atom x) where
-      pub has_atom : (a ≡ 0 → ⊥) → false ≡ zero_step (step_of x)
-      unfolding zero_step step_of
-      has_atom d = sym (simp (sym ax, ne_eqb a 0 d, and-false))
+    pub other_decides : (a o : ℕ) (w : Bool) → k ≡ 0 → v ≡ true → a ≡ step_atom x → w ≡ eqb a 0 → w ≡ true → o ≡ step_other x
+        → eqb o 0 ≡ zero_step (step_of x)
+    unfolding zero_step step_of
+    other_decides a o w kz t ax wa u ox =
+        sym (simp (sym kx, sym px, sym ax, sym ox, eq-eqb k 0 kz, sym vp ∙ t, sym wa ∙ u))
 
-      pub other_decides : (o : ℕ) → k ≡ 0 → p ≡ 0 → a ≡ 0 → o ≡ step_other x → eqb o 0 ≡ zero_step (step_of x)
-      unfolding zero_step step_of
-      other_decides o kz pz az ox = sym (simp (sym kx, sym px, sym ax, sym ox, eq-eqb k 0 kz, eq-eqb p 0 pz, eq-eqb a 0 az))
+pub has_atom : (x a : ℕ) (v : Bool) → a ≡ step_atom x → v ≡ eqb a 0 → v ≡ false → v ≡ zero_step (step_of x)
+unfolding zero_step step_of
+has_atom x a v ax va f = f ∙ sym (simp (sym ax, sym va ∙ f, and-false))
 
 -- the fields put together are taken apart again
 pub step_made : (kind parent atom other : ℕ) → kind < 4 → parent < 1024 → atom < 16 → other < 65536

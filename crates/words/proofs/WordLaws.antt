@@ -2,7 +2,7 @@
 use mathlib.Core.Path.{◌≡◌, refl, sym, ap, ◌∙◌}
 use Prim.Native.Nat.{ℕ, ◌+◌, ◌*◌, ◌/◌, ◌%◌, ◌<◌}
 use native.Mathlib.Omega.{arith}
-use mathlib.Core.Bool.{Bool, true, false, ◌&&◌, ◌||◌, and-true, and_assoc, or-false}
+use mathlib.Core.Bool.{Bool, true, false, not, ◌&&◌, ◌||◌, and-true, and_assoc, or-false}
 use lib.Dec.{eqb}
 use borrow.Author.Rules.{rules}
 use borrow.Author.Tests.{eq-eqb, ne_eqb, eqb-true, eqb-false}
@@ -104,18 +104,23 @@ same_atom_lem a b =
     same_atoms (word_kind a) (word_kind b) (word_name a) (word_name b) (word_first a) (word_first b) (word_second a) (word_second b)
     (omega arith) (omega arith) (omega arith) (omega arith) (omega arith) (omega arith)
 
-module _ (a b k l : ℕ) (ka : k ≡ word_kind a) (lb : l ≡ word_kind b) where
-  pub kind_differs : (k ≡ l → ⊥) → false ≡ same_atom (word_atom a) (word_atom b)
-  kind_differs e = sym (same_atom_lem a b ∙ simp (ne_eqb (word_kind a) (word_kind b) (λ z. e (cc))))
+-- v says whether kinds and numbers are the same
+module _ (a b k l : ℕ) (v : Bool) (ka : k ≡ word_kind a) (lb : l ≡ word_kind b) where
+  pub kind_differs : (k ≡ l → ⊥) → v ≡ eqb k l → v ≡ same_atom (word_atom a) (word_atom b)
+  kind_differs e h = h ∙ ne_eqb k l e ∙ sym (same_atom_lem a b ∙ simp (ne_eqb (word_kind a) (word_kind b) (λ z. e (cc))))
 
-  pub number_differs : (n m : ℕ) → k ≡ l → n ≡ word_name a → m ≡ word_name b → (n ≡ m → ⊥) → false ≡ same_atom (word_atom a) (word_atom b)
-  number_differs n m e na mb d =
-      sym (same_atom_lem a b ∙ simp (eq-eqb (word_kind a) (word_kind b) (cc), ne_eqb (word_name a) (word_name b) (λ z. d (cc))))
+  pub kind_found : {A : Type 0} → (k ≡ l → ⊥) → v ≡ eqb k l → v ≡ true → A
+  kind_found e h t = absurd (e (eqb-true k l (sym h ∙ t)))
 
-  pub terms_decide : (n m : ℕ) (r : Bool) → k ≡ l → n ≡ word_name a → m ≡ word_name b → n ≡ m
-      → r ≡ same_terms k (word_first a) (word_first b) (word_second a) (word_second b) → r ≡ same_atom (word_atom a) (word_atom b)
-  terms_decide n m r e na mb d h =
-      h ∙ sym (same_atom_lem a b ∙ simp (sym ka, eq-eqb k (word_kind b) (e ∙ lb), eq-eqb (word_name a) (word_name b) (cc)))
+  module _ (n m : ℕ) (e : k ≡ l) (na : n ≡ word_name a) (mb : m ≡ word_name b) (h : v ≡ eqb n m) where
+    pub number_differs : v ≡ false → v ≡ same_atom (word_atom a) (word_atom b)
+    number_differs f = let d : eqb n m ≡ false = sym h ∙ f in
+        f ∙ sym (same_atom_lem a b ∙ simp (eq-eqb (word_kind a) (word_kind b) (cc), ← na, ← mb, d))
+
+    pub terms_decide : (r : Bool) → v ≡ true → r ≡ same_terms k (word_first a) (word_first b) (word_second a) (word_second b)
+        → r ≡ same_atom (word_atom a) (word_atom b)
+    terms_decide r t g = let d : eqb n m ≡ true = sym h ∙ t in
+        g ∙ sym (same_atom_lem a b ∙ simp (sym ka, eq-eqb k (word_kind b) (e ∙ lb), ← na, ← mb, d))
 
 -- ---- a term in an atom
 
@@ -132,11 +137,13 @@ some_place p a = go (eqb (word_kind a) 0)
     go false = simp or-false
 
 module _ (a t f : ℕ) (b : Bool) (fa : f ≡ word_first a) (h : b ≡ same_term (word_term t) (word_term f)) where
-  pub stands_first : b ≡ true → true ≡ any (same_term (word_term t)) (args (word_atom a))
-  stands_first e = sym (some_place (same_term (word_term t)) a ∙ simp (sym fa, sym h, e))
+  pub stands_first : b ≡ true → b ≡ any (same_term (word_term t)) (args (word_atom a))
+  stands_first e = let g : same_term (word_term t) (word_term f) ≡ true = sym h ∙ e in
+      e ∙ sym (some_place (same_term (word_term t)) a ∙ simp (sym fa, g))
 
-  pub stands_nowhere : (k : ℕ) → b ≡ false → k ≡ word_kind a → k ≡ 0 → false ≡ any (same_term (word_term t)) (args (word_atom a))
-  stands_nowhere k e ka z = sym (some_place (same_term (word_term t)) a ∙ simp (sym fa, sym h, e, eq-eqb (word_kind a) 0 (cc)))
+  pub stands_nowhere : (k : ℕ) → b ≡ false → k ≡ word_kind a → k ≡ 0
+      → not (eqb k 0) ≡ any (same_term (word_term t)) (args (word_atom a))
+  stands_nowhere k e ka z = ap not (eq-eqb k 0 z) ∙ sym (some_place (same_term (word_term t)) a ∙ simp (sym fa, sym h, e, eq-eqb (word_kind a) 0 (cc)))
 
   pub stands_second : (k g : ℕ) (c : Bool) → b ≡ false → k ≡ word_kind a → (k ≡ 0 → ⊥) → g ≡ word_second a
       → c ≡ same_term (word_term t) (word_term g) → c ≡ any (same_term (word_term t)) (args (word_atom a))

@@ -95,15 +95,7 @@ pub fn second_term(a: u64) -> u64
 fn same_terms(kind: u64, a: u64, b: u64) -> bool
     ensures { result ≡ (eqb (word_first a) (word_first b) && pick (eqb kind 0) true (eqb (word_second a) (word_second b))) }
 {
-    if first_term(a) == first_term(b) {
-        if kind == 0 {
-            true
-        } else {
-            second_term(a) == second_term(b)
-        }
-    } else {
-        false
-    }
+    first_term(a) == first_term(b) && (kind == 0 || second_term(a) == second_term(b))
 }
 
 // Whether two words are one atom.
@@ -111,12 +103,7 @@ pub fn same_atom(a: u64, b: u64) -> bool
     ensures { result ≡ same_atom (word_atom a) (word_atom b) }
 {
     let kind = kind_of(a);
-    if kind == kind_of(b) {
-        if number_of(a) == number_of(b) {
-            return same_terms(kind, a, b);
-        }
-    }
-    false
+    kind == kind_of(b) && number_of(a) == number_of(b) && same_terms(kind, a, b)
 }
 
 // Whether the term stands in the atom.
@@ -124,12 +111,5 @@ pub fn stands(a: u64, t: u64) -> bool
     requires { t < word_term_bound }
     ensures { result ≡ any (same_term (word_term t)) (args (word_atom a)) }
 {
-    if same_term(t, first_term(a)) {
-        return true;
-    }
-    if kind_of(a) == 0 {
-        false
-    } else {
-        same_term(t, second_term(a))
-    }
+    same_term(t, first_term(a)) || kind_of(a) != 0 && same_term(t, second_term(a))
 }

@@ -8,9 +8,5 @@ use crate::limits::{FIRST_LOST_TAG, LAST_LOST_TAG};
 pub fn may_answer(object: u64) -> bool
     ensures { result ≡ may_answer object }
 {
-    if object < FIRST_LOST_TAG {
-        true
-    } else {
-        LAST_LOST_TAG < object
-    }
+    object < FIRST_LOST_TAG || LAST_LOST_TAG < object
 }

@@ -9,29 +9,14 @@ ghost use Rattle.words.specs.Rows.{Row, row_at, member_in, RowOf};
 use crate::QueryWords;
 use crate::limits::{MEMBER_WORDS, MOST_ATOMS, MOST_TERMS};
 
-// Four words of the table.
-fn four_from(table: &[u64], at: usize) -> [u64; MOST_TERMS]
-    requires { at + 4 ≤ length table.now }
-    ensures { result ≡ take 4 (drop at table.now) }
+// So many words of the table.
+fn words_from<const N: usize>(table: &[u64], at: usize) -> [u64; N]
+    requires { at + N ≤ length table.now }
+    ensures { result ≡ take N (drop at table.now) }
 {
-    [table[at], table[at + 1], table[at + 2], table[at + 3]]
-}
-
-// Eight words of the table.
-fn eight_from(table: &[u64], at: usize) -> [u64; MOST_ATOMS]
-    requires { at + 8 ≤ length table.now }
-    ensures { result ≡ take 8 (drop at table.now) }
-{
-    [
-        table[at],
-        table[at + 1],
-        table[at + 2],
-        table[at + 3],
-        table[at + 4],
-        table[at + 5],
-        table[at + 6],
-        table[at + 7],
-    ]
+    let mut words = [0; N];
+    words.copy_from_slice(&table[at..at + N]);
+    words
 }
 
 // The question of member j.
@@ -40,8 +25,8 @@ pub fn load(table: &[u64], j: usize) -> QueryWords
     ensures { (query_of result ≡ (member_in table.now j).query) × Small result }
 {
     let at = MEMBER_WORDS * j;
-    let answers = four_from(table, at + 2);
-    let atoms = eight_from(table, at + 8);
+    let answers = words_from::<MOST_TERMS>(table, at + 2);
+    let atoms = words_from::<MOST_ATOMS>(table, at + 8);
     QueryWords {
         terms: table[at + 1] as usize,
         answers,
@@ -70,9 +55,5 @@ pub fn put_row(table: &mut [u64], at: usize, row: [u64; MEMBER_WORDS])
     requires { at + stride ≤ length table.old }
     ensures { table.new ≡ paste table.old at row stride }
 {
-    let mut k: usize = 0;
-    while k < MEMBER_WORDS {
-        table[at + k] = row[k];
-        k += 1;
-    }
+    table[at..at + MEMBER_WORDS].copy_from_slice(&row);
 }

@@ -35,14 +35,7 @@ pub fn other_in(step: u64) -> usize
 pub fn zero_step(step: u64) -> bool
     ensures { result ≡ zero_step (step_of step) }
 {
-    if kind_in(step) == 0 {
-        if parent_in(step) == 0 {
-            if atom_in(step) == 0 {
-                return other_in(step) == 0;
-            }
-        }
-    }
-    false
+    kind_in(step) == 0 && parent_in(step) == 0 && atom_in(step) == 0 && other_in(step) == 0
 }
 
 // The word of a step, from its fields.

@@ -1,14 +1,5 @@
 use Rattle.words.proofs.WordLaws.{laws}
 use Rattle.words.proofs.concept_word.Goals as goal
 
-pub overflow_mul-result : goal.overflow_mul-result
-overflow_mul-result c = search laws
-
-pub overflow_mul-result-2 : goal.overflow_mul-result-2
-overflow_mul-result-2 c = search laws
-
-pub overflow_add-result : goal.overflow_add-result
-overflow_add-result c = search laws
-
 pub returns : goal.returns
 returns c = search laws

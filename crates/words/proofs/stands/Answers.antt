@@ -1,26 +1,11 @@
 use Rattle.words.proofs.WordLaws.{laws}
 use Rattle.words.proofs.stands.Goals as goal
 
-pub first_term-requires : goal.first_term-requires
-first_term-requires c = search laws
-
-pub same_term-requires : goal.same_term-requires
-same_term-requires c = search laws
-
 pub returns-then-same_term : goal.returns-then-same_term
 returns-then-same_term c = search laws
 
-pub kind_of-requires : goal.kind_of-requires
-kind_of-requires c = search laws
+pub returns-then-kind_of-ne0 : goal.returns-then-kind_of-ne0
+returns-then-kind_of-ne0 c = search laws
 
-pub second_term-requires : goal.second_term-requires
-second_term-requires c = search laws
-
-pub same_term-requires-else-kind_of-eq0 : goal.same_term-requires-else-kind_of-eq0
-same_term-requires-else-kind_of-eq0 c = search laws
-
-pub returns-then-kind_of-eq0 : goal.returns-then-kind_of-eq0
-returns-then-kind_of-eq0 c = search laws
-
-pub returns-else-kind_of-eq0 : goal.returns-else-kind_of-eq0
-returns-else-kind_of-eq0 c = search laws
+pub returns-else-kind_of-ne0 : goal.returns-else-kind_of-ne0
+returns-else-kind_of-ne0 c = search laws

@@ -1,26 +1,22 @@
-use Rattle.words.proofs.StepLaws.{laws}
+use mathlib.Core.Path.{◌∙◌}
+use Rattle.words.proofs.StepLaws.{laws, not_zero}
 use Rattle.words.proofs.steps.zero_step.Goals as goal
-
-pub kind_in-requires : goal.kind_in-requires
-kind_in-requires c = search laws
-
-pub parent_in-requires : goal.parent_in-requires
-parent_in-requires c = search laws
-
-pub atom_in-requires : goal.atom_in-requires
-atom_in-requires c = search laws
-
-pub other_in-requires : goal.other_in-requires
-other_in-requires c = search laws
+use Rattle.words.proofs.steps.zero_step.Goals.{then-kind_in-eq0, else-kind_in-eq0, then-parent_in-eq0, else-parent_in-eq0}
 
 pub returns-then-atom_in-eq0 : goal.returns-then-atom_in-eq0
-returns-then-atom_in-eq0 c = search laws
+returns-then-atom_in-eq0 c = elim c.if-parent_in-eq0.branch [
+  | then-parent_in-eq0 w ↦ elim c.if-kind_in-eq0.branch [
+    | then-kind_in-eq0 u ↦ search laws
+    | else-kind_in-eq0 u ↦ absurd (not_zero _ _ u.value-is u.if-kind_in-eq0.false w.if-parent_in-eq0.true)
+  ]
+  | else-parent_in-eq0 w ↦ absurd (search laws)
+]
 
 pub returns-else-atom_in-eq0 : goal.returns-else-atom_in-eq0
-returns-else-atom_in-eq0 c = search laws
-
-pub returns-else-parent_in-eq0 : goal.returns-else-parent_in-eq0
-returns-else-parent_in-eq0 c = search laws
-
-pub returns-else-kind_in-eq0 : goal.returns-else-kind_in-eq0
-returns-else-kind_in-eq0 c = search laws
+returns-else-atom_in-eq0 c = elim c.if-parent_in-eq0.branch [
+  | then-parent_in-eq0 w ↦ search laws
+  | else-parent_in-eq0 w ↦ elim c.if-kind_in-eq0.branch [
+    | then-kind_in-eq0 u ↦ w.value-is ∙ (search laws)
+    | else-kind_in-eq0 u ↦ w.value-is ∙ (search laws)
+  ]
+]
