@@ -14,7 +14,7 @@ pub fn two(s: &[u8], at: usize) -> u64
     requires { at + 2 ≤ length s.now }
     ensures { (result ≡ number_at s.now at 2) × (result < 65536) }
 {
-    wide(s[at]) * 0x100 + wide(s[at + 1])
+    u64::from(s[at]) * 0x100 + u64::from(s[at + 1])
 }
 
 // The number in three bytes of s.
@@ -22,7 +22,7 @@ pub fn three(s: &[u8], at: usize) -> u64
     requires { at + 3 ≤ length s.now }
     ensures { (result ≡ number_at s.now at 3) × (result < 16777216) }
 {
-    wide(s[at]) * 0x10000 + wide(s[at + 1]) * 0x100 + wide(s[at + 2])
+    u64::from(s[at]) * 0x10000 + u64::from(s[at + 1]) * 0x100 + u64::from(s[at + 2])
 }
 
 // The number in four bytes of s.

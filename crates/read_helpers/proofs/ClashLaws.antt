@@ -73,7 +73,7 @@ pub ruleset side_laws = (rules, in_use, concept_clear, side_clash)
 -- ---- a record
 
 module _ (p : List ℕ) (k x kind : ℕ) (is : kind ≡ rule_kind x) where
-  pub two_roles : kind ≡ 2 → (l r a b : ℕ) (s t : Bool) → l ≡ left_name x → r ≡ right_name x → a ≡ lower p l → b ≡ lower p r
+  two_roles : kind ≡ 2 → (l r a b : ℕ) (s t : Bool) → l ≡ left_name x → r ≡ right_name x → a ≡ lower p l → b ≡ lower p r
       → s ≡ is_helper k a → t ≡ is_helper k b → (s || t) ≡ clashing k (record_roles p x)
   unfolding record_roles clashing any
   two_roles two l r a b s t el er ea eb es et =
@@ -81,11 +81,22 @@ module _ (p : List ℕ) (k x kind : ℕ) (is : kind ≡ rule_kind x) where
       ∙ rw (eq-eqb (rule_kind x) 2 (sym is ∙ two)) (ap (λ b. is_helper k (lower p (left_name x)) || b)
       (sym (or-false (is_helper k (lower p (right_name x))))))
 
+  -- the second is looked at where the first is none
+  module _ (two : kind ≡ 2) (l a : ℕ) (s : Bool) (el : l ≡ left_name x) (ea : a ≡ lower p l) (es : s ≡ is_helper k a) where
+    pub first_role : s ≡ true → s ≡ clashing k (record_roles p x)
+    first_role t =
+        let h = two_roles two l (right_name x) a (lower p (right_name x)) s (is_helper k (lower p (right_name x))) el refl ea refl es refl in
+        t ∙ rw t at h
+
+    pub second_role : s ≡ false → (r b : ℕ) (t : Bool) → r ≡ right_name x → b ≡ lower p r → t ≡ is_helper k b
+        → t ≡ clashing k (record_roles p x)
+    second_role f r b t er eb et = let h = two_roles two l r a b s t el er ea eb es et in rw f at h
+
   pub filler_clear : kind ≡ 4 → false ≡ clashing k (record_roles p x)
   unfolding record_roles clashing any
   filler_clear four = rw (sym is ∙ four)
 
-  pub two_sides : (kind ≡ 2 → ⊥) → (kind ≡ 4 → ⊥) → (lf ln rf rn : ℕ) (s t : Bool) → lf ≡ left_form x → ln ≡ left_name x
+  two_sides : (kind ≡ 2 → ⊥) → (kind ≡ 4 → ⊥) → (lf ln rf rn : ℕ) (s t : Bool) → lf ≡ left_form x → ln ≡ left_name x
       → rf ≡ right_form x → rn ≡ right_name x → s ≡ clashing k (roles_of_basic (basic_as_read p (basic_of lf ln)))
       → t ≡ clashing k (roles_of_basic (basic_as_read p (basic_of rf rn))) → (s || t) ≡ clashing k (record_roles p x)
   unfolding record_roles
@@ -96,7 +107,20 @@ module _ (p : List ℕ) (k x kind : ℕ) (is : kind ≡ rule_kind x) where
       (et ∙ ap₂ (λ f n. clashing k (roles_of_basic (basic_as_read p (basic_of f n)))) er em) in
       rw (ne_eqb (rule_kind x) 2 (λ e. f (is ∙ e)), ne_eqb (rule_kind x) 4 (λ e. g (is ∙ e))) (whole ∙ sym sides)
 
-pub ruleset record_laws = (rules, two_roles, filler_clear, two_sides)
+  module _ (f : kind ≡ 2 → ⊥) (g : kind ≡ 4 → ⊥) (lf ln : ℕ) (s : Bool) (el : lf ≡ left_form x) (en : ln ≡ left_name x)
+      (es : s ≡ clashing k (roles_of_basic (basic_as_read p (basic_of lf ln))))
+    where
+      pub first_side : s ≡ true → s ≡ clashing k (record_roles p x)
+      first_side t =
+          let r : Bool = clashing k (roles_of_basic (basic_as_read p (basic_of (right_form x) (right_name x)))) in
+          let h = two_sides f g lf ln (right_form x) (right_name x) s r el en refl refl es refl in
+          t ∙ rw t at h
+
+      pub second_side : s ≡ false → (rf rn : ℕ) (t : Bool) → rf ≡ right_form x → rn ≡ right_name x
+          → t ≡ clashing k (roles_of_basic (basic_as_read p (basic_of rf rn))) → t ≡ clashing k (record_roles p x)
+      second_side d rf rn t er em et = let h = two_sides f g lf ln rf rn s t el en er em es et in rw d at h
+
+pub ruleset record_laws = (rules, first_role, second_role, filler_clear, first_side, second_side)
 
 -- ---- an atom, a fact
 

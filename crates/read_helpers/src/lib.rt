@@ -34,11 +34,7 @@ fn side_clashes(form: u64, name: u64, partners: &[u16], helpers: u64) -> bool
     requires { (name < name_bound) × (helpers ≤ most_rules) }
     ensures { result ≡ clashing helpers (roles_of_basic (basic_as_read partners.now (basic_of form name))) }
 {
-    if form == 0 {
-        false
-    } else {
-        is_helper(lower(partners, name), helpers)
-    }
+    form != 0 && is_helper(lower(partners, name), helpers)
 }
 
 // Whether one of a record's two roles or descriptions has one; a filler is a concept.
@@ -46,15 +42,16 @@ fn record_clashes(x: u64, partners: &[u16], helpers: u64) -> bool
     requires { helpers ≤ most_rules }
     ensures { result ≡ clashing helpers (record_roles partners.now x) }
 {
-    let kind = rule_kind(x);
-    if kind == 2 {
-        is_helper(lower(partners, left_name(x)), helpers)
-            | is_helper(lower(partners, right_name(x)), helpers)
-    } else if kind == 4 {
-        false
-    } else {
-        side_clashes(left_form(x), left_name(x), partners, helpers)
-            | side_clashes(right_form(x), right_name(x), partners, helpers)
+    match rule_kind(x) {
+        2 => {
+            is_helper(lower(partners, left_name(x)), helpers)
+                || is_helper(lower(partners, right_name(x)), helpers)
+        }
+        4 => false,
+        _ => {
+            side_clashes(left_form(x), left_name(x), partners, helpers)
+                || side_clashes(right_form(x), right_name(x), partners, helpers)
+        }
     }
 }
 
@@ -63,13 +60,10 @@ pub fn rules_clash(s: &[u8], partners: &[u16], helpers: u64) -> bool
     requires { (helpers ≤ most_rules) × (all passes2 (rule_records s.now) ≡ true) × (pairs_sound false (rule_records s.now) ≡ true) }
     ensures { result ≡ clashing helpers (roles_of_rules (rules_as_written partners.now sheet_width s.now)) }
 {
-    let n = s.len() / RULE_BYTES;
-    let mut i = 0;
-    while i < n {
+    for i in 0..s.len() / RULE_BYTES {
         if record_clashes(four(s, RULE_BYTES * i), partners, helpers) {
             return true;
         }
-        i += 1;
     }
     false
 }
@@ -79,11 +73,7 @@ fn atom_clashes(a: u64, helpers: u64) -> bool
     requires { helpers ≤ most_rules }
     ensures { result ≡ clashing helpers (roles_of_atom (word_atom a)) }
 {
-    if kind_of(a) == 0 {
-        false
-    } else {
-        is_helper(number_of(a), helpers)
-    }
+    kind_of(a) != 0 && is_helper(number_of(a), helpers)
 }
 
 // Whether one stands in the first n atoms.
@@ -91,12 +81,10 @@ fn atoms_clash(atoms: [u64; MOST_ATOMS], n: usize, helpers: u64) -> bool
     requires { (helpers ≤ most_rules) × (n ≤ most_atoms) }
     ensures { result ≡ clashing helpers (roles_of_atoms (map word_atom (take n atoms))) }
 {
-    let mut i: usize = 0;
-    while i < n {
+    for i in 0..n {
         if atom_clashes(atoms[i], helpers) {
             return true;
         }
-        i += 1;
     }
     false
 }
@@ -115,7 +103,7 @@ pub fn asked_clashes(clash: bool, q: QueryWords, helpers: u64) -> bool
     requires { (helpers ≤ most_rules) × Small q }
     ensures { result ≡ (clash || clashing helpers (roles_of_atoms (query_of q).atoms)) }
 {
-    clash | question_clashes(q, helpers)
+    clash || question_clashes(q, helpers)
 }
 
 // Whether a fact's role is one.
@@ -123,11 +111,7 @@ fn fact_clashes(f: u64, helpers: u64) -> bool
     requires { helpers ≤ most_rules }
     ensures { result ≡ clashing helpers (roles_of_atom (word_fact f)) }
 {
-    if fact_kind(f) == 0 {
-        false
-    } else {
-        is_helper(fact_name(f), helpers)
-    }
+    fact_kind(f) != 0 && is_helper(fact_name(f), helpers)
 }
 
 // 18 by the facts: whether one stands in the table's first facts.
@@ -135,12 +119,10 @@ fn facts_clash(table: &[u64], count: usize, helpers: u64) -> bool
     requires { (helpers ≤ most_rules) × (count ≤ length table.now) }
     ensures { result ≡ clashing helpers (roles_of_atoms (facts_in table.now count)) }
 {
-    let mut i: usize = 0;
-    while i < count {
+    for i in 0..count {
         if fact_clashes(table[i], helpers) {
             return true;
         }
-        i += 1;
     }
     false
 }
@@ -150,5 +132,5 @@ pub fn drawn_clashes(clash: bool, table: &[u64], count: usize, helpers: u64) -> 
     requires { (helpers ≤ most_rules) × (count ≤ length table.now) }
     ensures { result ≡ (clash || clashing helpers (roles_of_atoms (facts_in table.now count))) }
 {
-    clash | facts_clash(table, count, helpers)
+    clash || facts_clash(table, count, helpers)
 }

@@ -13,7 +13,7 @@ ghost use Rattle.sheets.specs.Partners.{atom_as_read};
 ghost use Rattle.sheets.specs.Tests.{answer_sound, atom_sound, question_sound, covered as covered_by, refuses4, refuses5};
 ghost use Rattle.read_question.specs.QuestionWords.{ReadFrom, Judged, QuestionRead, answers_from, atoms_from, longest_counted};
 
-use read_fields::bytes::{six, three, wide};
+use read_fields::bytes::{six, three};
 use read_records::terms::{answer_sound, atom_sound, atom_word, widen_term};
 use words::limits::{ANSWER_BYTES, ATOM_BYTES, MOST_ATOMS, MOST_TERMS};
 use words::{QueryWords, is_variable, same_atom, stands};
@@ -23,14 +23,14 @@ pub fn term_count(s: &[u8], at: usize) -> usize
     requires { at < length s.now }
     ensures { (result ≡ term_count s.now at) × (result < 16) }
 {
-    wide(s[at]) as usize / 16
+    usize::from(s[at]) / 16
 }
 
 fn atom_count(s: &[u8], at: usize) -> usize
     requires { at < length s.now }
     ensures { (result ≡ atom_count s.now at) × (result < 16) }
 {
-    wide(s[at]) as usize % 16
+    usize::from(s[at]) % 16
 }
 
 // How many bytes the counts of the question at byte `at` give it.
@@ -46,12 +46,10 @@ fn answers_sound(s: &[u8], from: usize, n: usize) -> bool
     requires { from + answer_bytes sheet_width * n ≤ length s.now }
     ensures { result ≡ all (answer_sound sheet_width) (answers_from s.now from n) }
 {
-    let mut i: usize = 0;
-    while i < n {
+    for i in 0..n {
         if !answer_sound(three(s, from + ANSWER_BYTES * i)) {
             return false;
         }
-        i += 1;
     }
     true
 }
@@ -61,12 +59,10 @@ fn atoms_sound(s: &[u8], from: usize, n: usize) -> bool
     requires { from + record_bytes sheet_width * n ≤ length s.now }
     ensures { result ≡ all (atom_sound sheet_width) (atoms_from s.now from n) }
 {
-    let mut i: usize = 0;
-    while i < n {
+    for i in 0..n {
         if !atom_sound(six(s, from + ATOM_BYTES * i)) {
             return false;
         }
-        i += 1;
     }
     true
 }
@@ -78,11 +74,7 @@ fn records_sound(s: &[u8], at: usize, terms: usize, size: usize) -> bool
     ensures { result ≡ (all (answer_sound sheet_width) (answers_from s.now (at + 1) terms)
         && all (atom_sound sheet_width) (atoms_from s.now (at + 1 + answer_bytes sheet_width * terms) size)) }
 {
-    if answers_sound(s, at + 1, terms) {
-        atoms_sound(s, at + 1 + ANSWER_BYTES * terms, size)
-    } else {
-        false
-    }
+    answers_sound(s, at + 1, terms) && atoms_sound(s, at + 1 + ANSWER_BYTES * terms, size)
 }
 
 // Whether the question at byte `at` has counts in range and sound records.
@@ -111,10 +103,8 @@ fn read_answers(s: &[u8], from: usize, n: usize) -> [u64; MOST_TERMS]
     ensures { (map word_term (take n result) ≡ map (term_of sheet_width) (answers_from s.now from n)) × TermWords result }
 {
     let mut words = [0u64; MOST_TERMS];
-    let mut i: usize = 0;
-    while i < n {
+    for i in 0..n {
         words[i] = widen_term(three(s, from + ANSWER_BYTES * i));
-        i += 1;
     }
     words
 }
@@ -126,10 +116,8 @@ fn read_atoms(s: &[u8], from: usize, n: usize, partners: &[u16]) -> [u64; MOST_A
         ≡ map (atom_as_read partners.now) (map (atom_of sheet_width) (atoms_from s.now from n)) }
 {
     let mut words = [0u64; MOST_ATOMS];
-    let mut i: usize = 0;
-    while i < n {
+    for i in 0..n {
         words[i] = atom_word(six(s, from + ATOM_BYTES * i), partners);
-        i += 1;
     }
     words
 }
@@ -156,12 +144,10 @@ fn stands_in(atoms: [u64; MOST_ATOMS], n: usize, t: u64) -> bool
     requires { (n ≤ most_atoms) × (t < word_term_bound) }
     ensures { result ≡ any (same_term (word_term t)) (places (map word_atom (take n atoms))) }
 {
-    let mut i: usize = 0;
-    while i < n {
+    for i in 0..n {
         if stands(atoms[i], t) {
             return true;
         }
-        i += 1;
     }
     false
 }
@@ -171,11 +157,7 @@ fn covered(atoms: [u64; MOST_ATOMS], n: usize, t: u64) -> bool
     requires { (n ≤ most_atoms) × (t < word_term_bound) }
     ensures { result ≡ covered_by (map word_atom (take n atoms)) (word_term t) }
 {
-    if is_variable(t) {
-        stands_in(atoms, n, t)
-    } else {
-        true
-    }
+    !is_variable(t) || stands_in(atoms, n, t)
 }
 
 // Refusal 4 on a question in words.
@@ -185,13 +167,8 @@ pub fn missing_answer(q: QueryWords) -> bool
 {
     let answers = q.answers;
     let atoms = q.atoms;
-    let n = q.terms;
-    let size = q.size;
-    let mut i: usize = 0;
-    while i < n {
-        if covered(atoms, size, answers[i]) {
-            i += 1;
-        } else {
+    for i in 0..q.terms {
+        if !covered(atoms, q.size, answers[i]) {
             return true;
         }
     }
@@ -203,12 +180,10 @@ fn stands_again(atoms: [u64; MOST_ATOMS], from: usize, n: usize, a: u64) -> bool
     requires { (from ≤ n) × (n ≤ most_atoms) }
     ensures { result ≡ some_from (test_at (same_atom (word_atom a)) word_atom atoms) from n }
 {
-    let mut i = from;
-    while i < n {
+    for i in from..n {
         if same_atom(a, atoms[i]) {
             return true;
         }
-        i += 1;
     }
     false
 }
@@ -220,12 +195,10 @@ pub fn repeated_atom(q: QueryWords) -> bool
 {
     let atoms = q.atoms;
     let n = q.size;
-    let mut i: usize = 0;
-    while i < n {
+    for i in 0..n {
         if stands_again(atoms, i + 1, n, atoms[i]) {
             return true;
         }
-        i += 1;
     }
     false
 }

@@ -23,17 +23,6 @@ pub sound_variable : (t k n : ℕ) → k ≡ t / object_bound → k ≡ 0 → n 
 unfolding term_sound
 sound_variable t k n e z d = rw (← e, z, ← d)
 
--- the same where the code says "up to 31"
-pub sound_low : (t k n : ℕ) → k ≡ t / object_bound → k ≡ 0 → n ≡ t % object_bound → leb n 31 ≡ term_sound sheet_width t
-sound_low t k n e z d = below n ∙ sound_variable t k n e z d
-  where
-    below : (n : ℕ) → leb n 31 ≡ ltb n variable_bound
-    below n =
-        elim (dec_lt n variable_bound) [
-          | yes h ↦ le-leb n 31 (omega arith) ∙ sym (lt-ltb n variable_bound h)
-          | no h ↦ lt-leb n 31 (omega arith) ∙ sym (le-ltb n variable_bound (omega arith))
-        ]
-
 pub sound_object : (t k : ℕ) → k ≡ t / object_bound → (k ≡ 0 → ⊥) → true ≡ term_sound sheet_width t
 unfolding term_sound
 sound_object t k e z = rw (← e, ne_eqb k 0 z)
@@ -54,9 +43,6 @@ second_sound x = pick (eqb (atom_kind sheet_width x) 0) (eqb (atom_second sheet_
 module _ (x k t : ℕ) (e : k ≡ atom_kind sheet_width x) (d : t ≡ atom_second sheet_width x) where
   pub second_empty : k ≡ 0 → eqb t 0 ≡ second_sound x
   second_empty z = rw (← e, z, ← d)
-
-  pub second_zero : k ≡ 0 → eqb 0 t ≡ second_sound x
-  second_zero z = eqb_comm 0 t ∙ second_empty z
 
   pub second_term : (b : Bool) → (k ≡ 0 → ⊥) → b ≡ term_sound sheet_width t → b ≡ second_sound x
   second_term b z h = rw (← e, ne_eqb k 0 z, ← d) h
@@ -109,12 +95,10 @@ module _ (p : List ℕ) where
 pub ruleset laws = (
   rules,
   sound_variable,
-  sound_low,
   sound_object,
   sound_answer,
   wide_answer,
   second_empty,
-  second_zero,
   second_term,
   set_bit,
   sound_atom,

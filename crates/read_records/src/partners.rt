@@ -13,22 +13,14 @@ pub fn default_partners() -> [u16; 16]
     PARTNERS
 }
 
-fn entry(x: u16) -> u64
-    ensures { result ≡ x }
-{
-    x as u64
-}
-
 // The role's partner, which is the role itself where the table has none.
 fn partner(partners: &[u16], role: u64) -> u64
     requires { role < name_bound }
     ensures { result ≡ get_or partners.now role role }
 {
-    let at = role as usize;
-    if at < partners.len() {
-        entry(partners[at])
-    } else {
-        role
+    match partners.get(role as usize) {
+        Some(other) => u64::from(*other),
+        None => role,
     }
 }
 
@@ -45,6 +37,5 @@ pub fn lower(partners: &[u16], role: u64) -> u64
     requires { role < name_bound }
     ensures { (result ≡ lower_of partners.now role) × (result < name_bound) }
 {
-    let other = partner(partners, role);
-    if other < role { other } else { role }
+    partner(partners, role).min(role)
 }

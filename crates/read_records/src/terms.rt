@@ -53,22 +53,14 @@ pub fn atom_word(x: u64, partners: &[u16]) -> u64
 fn term_sound(t: u64) -> bool
     ensures { result ≡ term_sound sheet_width t }
 {
-    if term_kind(t) == 0 {
-        term_number(t) < VARIABLE_BOUND
-    } else {
-        true
-    }
+    term_kind(t) != 0 || term_number(t) < VARIABLE_BOUND
 }
 
 // Whether an answer record has its zero bits and a sound term.
 pub fn answer_sound(x: u64) -> bool
     ensures { result ≡ answer_sound sheet_width x }
 {
-    if x < SHEET_TERM_BOUND {
-        term_sound(x)
-    } else {
-        false
-    }
+    x < SHEET_TERM_BOUND && term_sound(x)
 }
 
 // Whether an atom record's second place is zero for a concept, a sound term for a role.
@@ -88,13 +80,5 @@ fn second_sound(x: u64) -> bool
 pub fn atom_sound(x: u64) -> bool
     ensures { result ≡ atom_sound sheet_width x }
 {
-    if atom_zero(x) == 0 {
-        if term_sound(atom_first(x)) {
-            second_sound(x)
-        } else {
-            false
-        }
-    } else {
-        false
-    }
+    atom_zero(x) == 0 && term_sound(atom_first(x)) && second_sound(x)
 }

@@ -106,22 +106,11 @@ fn pair_forms(x: u64) -> bool
     pair_kind_and_forms(rule_kind(x), left_form(x), right_form(x), right_name(x))
 }
 
-// A kind 4 stands exactly where one waits for it.
-fn in_place(waits: bool, filler: bool) -> bool
-    ensures { result ≡ pick waits filler (not filler) }
-{
-    if waits { filler } else { !filler }
-}
-
-// Whether the record may stand here, a kind 4 or not, with a pair's forms if it is of one.
+// Whether the record may stand here, a kind 4 exactly where one waits for it, with a pair's forms if it is of one.
 pub fn follows(waits: bool, x: u64) -> bool
     ensures { result ≡ follows_rule waits x }
 {
-    if in_place(waits, rule_kind(x) == 4) {
-        pair_forms(x)
-    } else {
-        false
-    }
+    (rule_kind(x) == 4) == waits && pair_forms(x)
 }
 
 // A description as read, in 14 bits: at a higher role forms 1 and 2 change places, and the number becomes the lower.

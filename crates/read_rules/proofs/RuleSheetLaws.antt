@@ -58,23 +58,20 @@ module _ (s : List ℕ) where
     count_ends h =
         let e : pairs_in (rest s i) ≡ 0 = ap pairs_in (left_none rule_bytes s 0 (length s / rule_bytes) i h) in omega arith
 
-    pub count_goes_on : i < length s / rule_bytes → (x k : ℕ) → Nth rule_bytes s 0 i x → k ≡ pick (eqb (rule_kind x) 3) 1 0
-        → (pairs + k) + pairs_in (rest s (i + 1)) ≡ total
-    unfolding pairs_in count
-    count_goes_on h x k here e =
-        let n : pairs_in (rest s i) ≡ pick (eqb (rule_kind x) 3) (suc (pairs_in (rest s (i + 1)))) (pairs_in (rest s (i + 1))) =
-        ap pairs_in (left_next rule_bytes s 0 (length s / rule_bytes) i h) ∙ rw here.is in
-        go (eqb (rule_kind x) 3) e n
-      where
-        go : (b : Bool) → k ≡ pick b 1 0 → pairs_in (rest s i) ≡ pick b (suc (pairs_in (rest s (i + 1)))) (pairs_in (rest s (i + 1)))
-            → (pairs + k) + pairs_in (rest s (i + 1)) ≡ total
-        go true d n = omega arith
-        go false d n = omega arith
+    -- with the record at i, whose kind is k
+    module _ (h : i < length s / rule_bytes) (x k : ℕ) (here : Nth rule_bytes s 0 i x) (e : k ≡ rule_kind x) (later : ℕ) where
+      left_there : pairs_in (rest s i) ≡ pick (eqb (rule_kind x) 3) (suc (pairs_in (rest s (i + 1)))) (pairs_in (rest s (i + 1)))
+      unfolding pairs_in count
+      left_there = ap pairs_in (left_next rule_bytes s 0 (length s / rule_bytes) i h) ∙ rw here.is
 
-pub begins : (k : ℕ) (x : ℕ) → k ≡ rule_kind x → k ≡ 3 → ◌≡◌ {A = ℕ} 1 (pick (eqb (rule_kind x) 3) 1 0)
-begins k x e d = rw (eq-eqb (rule_kind x) 3 (sym e ∙ d))
+      pub pair_counted : k ≡ 3 → later ≡ pairs + 1 → later + pairs_in (rest s (i + 1)) ≡ total
+      pair_counted d g =
+          let n : pairs_in (rest s i) ≡ suc (pairs_in (rest s (i + 1))) =
+          left_there ∙ rw (eq-eqb (rule_kind x) 3 (sym e ∙ d)) in omega arith
 
-pub begins_none : (k : ℕ) (x : ℕ) → k ≡ rule_kind x → (k ≡ 3 → ⊥) → ◌≡◌ {A = ℕ} 0 (pick (eqb (rule_kind x) 3) 1 0)
-begins_none k x e d = rw (ne_eqb (rule_kind x) 3 (λ f. d (e ∙ f)))
+      pub rule_passed : (k ≡ 3 → ⊥) → later ≡ pairs → later + pairs_in (rest s (i + 1)) ≡ total
+      rule_passed d g =
+          let n : pairs_in (rest s i) ≡ pairs_in (rest s (i + 1)) =
+          left_there ∙ rw (ne_eqb (rule_kind x) 3 (λ f. d (e ∙ f))) in omega arith
 
-pub ruleset count_laws = (rules, row_laws, begins, begins_none, count_begins, count_ends, count_goes_on)
+pub ruleset count_laws = (rules, row_laws, count_begins, count_ends, pair_counted, rule_passed)

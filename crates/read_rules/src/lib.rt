@@ -46,13 +46,10 @@ fn refused(number: u32) -> RuleSheet
 fn all_named(s: &[u8]) -> bool
     ensures { result ≡ all passes2 (rule_records s.now) }
 {
-    let n = s.len() / RULE_BYTES;
-    let mut i = 0;
-    while i < n {
+    for i in 0..s.len() / RULE_BYTES {
         if !is_named(four(s, RULE_BYTES * i)) {
             return false;
         }
-        i += 1;
     }
     true
 }
@@ -61,37 +58,26 @@ fn all_named(s: &[u8]) -> bool
 fn pairs_sound(s: &[u8]) -> bool
     ensures { result ≡ pairs_sound false (rule_records s.now) }
 {
-    let n = s.len() / RULE_BYTES;
-    let mut i = 0;
     let mut waits = false;
-    while i < n {
+    for i in 0..s.len() / RULE_BYTES {
         let x = four(s, RULE_BYTES * i);
         if !follows(waits, x) {
             return false;
         }
         waits = rule_kind(x) == 3;
-        i += 1;
     }
     !waits
-}
-
-// Whether a record begins a pair, as a number.
-fn begins_pair(x: u64) -> usize
-    ensures { (result ≡ pick (eqb (rule_kind x) 3) 1 0) × (result ≤ 1) }
-{
-    if rule_kind(x) == 3 { 1 } else { 0 }
 }
 
 // How many pairs there are: records of kind 3.
 fn count_pairs(s: &[u8]) -> usize
     ensures { (result ≡ pairs_in (rule_records s.now)) × (result ≤ length s.now / rule_bytes) }
 {
-    let n = s.len() / RULE_BYTES;
-    let mut i = 0;
     let mut pairs = 0;
-    while i < n {
-        pairs += begins_pair(four(s, RULE_BYTES * i));
-        i += 1;
+    for i in 0..s.len() / RULE_BYTES {
+        if rule_kind(four(s, RULE_BYTES * i)) == 3 {
+            pairs += 1;
+        }
     }
     pairs
 }

@@ -16,10 +16,8 @@ fn member_start(s: &[u8], m: usize) -> usize
     ensures { result ≡ member_start sheet_width s.now m }
 {
     let mut at: usize = COUNT_BYTES;
-    let mut j: usize = 0;
-    while j < m {
+    for _earlier in 0..m {
         at = member_end(s, at);
-        j += 1;
     }
     at
 }
@@ -29,14 +27,7 @@ fn has_member(s: &[u8], m: usize, partners: &[u16]) -> bool
     ensures { result ≡ has_member partners.now sheet_width s.now m }
 {
     let first = COUNT_BYTES + STEP_BYTES;
-    if s.len() <= first {
-        return false;
-    }
-    if union_sound(s, partners, term_count(s, first)) {
-        m < member_count(s)
-    } else {
-        false
-    }
+    s.len() > first && union_sound(s, partners, term_count(s, first)) && m < member_count(s)
 }
 
 // The place of a part of a sheet: its first byte, 0 for an empty part, and its length.

@@ -27,13 +27,11 @@ fn fill_union(s: &[u8], partners: &[u16], table: &mut [u64], count: usize)
         × NarrowRows table.new count }
 {
     let mut at: usize = COUNT_BYTES;
-    let mut row: usize = 0;
-    while row < count {
+    for row in 0..count {
         let step = four(s, at);
         let q = read_query(s, at + STEP_BYTES, partners);
         put_row(table, MEMBER_WORDS * row, member_words(step, q));
         at = member_end(s, at);
-        row += 1;
     }
 }
 

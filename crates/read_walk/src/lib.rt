@@ -1,13 +1,13 @@
 // The walk over a union sheet, member after member: where each ends, and whether it is sound. Refusal 6.
 #![tactic(auto)]
 
-ghost use Rattle.std.specs.Prelude.{◌≡◌, not, ◌&&◌, ◌+◌, ◌≤◌, eqb, length};
+ghost use Rattle.std.specs.Prelude.{◌≡◌, true, false, not, ◌&&◌, ◌+◌, ◌≤◌, eqb, length, MatchOption};
 ghost use Rattle.theory.specs.Lists.{all, numbers};
 ghost use Rattle.words.specs.Limits.{sheet_width, count_bytes, step_bytes, most_union_bytes};
 ghost use Rattle.sheets.specs.Format.{question_length, member_start, member_count};
 ghost use Rattle.sheets.specs.Tests.{member_sound_at, member_sound, refuses6};
 ghost use Rattle.read_question.specs.QuestionWords.{longest_counted};
-ghost use Rattle.read_walk.specs.Ends.{member_end, end_if_sound};
+ghost use Rattle.read_walk.specs.Ends.{member_end, whole_and_sound};
 
 use read_fields::bytes::two;
 use read_question::{missing_answer, question_length, question_sound, read_query, repeated_atom};
@@ -39,33 +39,27 @@ fn member_sound(s: &[u8], at: usize, arity: usize, partners: &[u16]) -> bool
     requires { at + question_length sheet_width s.now at ≤ length s.now }
     ensures { result ≡ member_sound_at partners.now sheet_width arity s.now at }
 {
-    if question_sound(s, at) {
-        let q = read_query(s, at, partners);
-        if missing_answer(q) {
-            return false;
-        }
-        if repeated_atom(q) {
-            return false;
-        }
-        q.terms == arity
-    } else {
-        false
+    if !question_sound(s, at) {
+        return false;
     }
+    let q = read_query(s, at, partners);
+    !missing_answer(q) && !repeated_atom(q) && q.terms == arity
 }
 
-// Where the member that begins at `at` ends, if it ends within the sheet and is sound, and else 0.
-fn checked_end(s: &[u8], at: usize, arity: usize, partners: &[u16]) -> usize
+// Where the member that begins at `at` ends, if it ends within the sheet and is sound.
+fn checked_end(s: &[u8], at: usize, arity: usize, partners: &[u16]) -> Option<usize>
     requires { (at ≤ length s.now) × (length s.now ≤ most_union_bytes sheet_width) }
-    ensures { result ≡ end_if_sound partners.now arity s.now at }
+    ensures { MatchOption result (whole_and_sound partners.now arity s.now at ≡ false)
+        (λ end. (end ≡ member_end s.now at) × (whole_and_sound partners.now arity s.now at ≡ true)) }
 {
     let end = member_end(s, at);
     if s.len() < end {
-        return 0;
+        return None;
     }
     if member_sound(s, at + STEP_BYTES, arity, partners) {
-        end
+        Some(end)
     } else {
-        0
+        None
     }
 }
 
@@ -76,14 +70,11 @@ fn members_sound(s: &[u8], partners: &[u16], arity: usize, count: usize) -> bool
         && all (member_sound partners.now sheet_width arity s.now) (numbers 0 count)) }
 {
     let mut at: usize = COUNT_BYTES;
-    let mut seen: usize = 0;
-    while seen < count {
-        let end = checked_end(s, at, arity, partners);
-        if end == 0 {
-            return false;
+    for _seen in 0..count {
+        match checked_end(s, at, arity, partners) {
+            Some(end) => at = end,
+            None => return false,
         }
-        at = end;
-        seen += 1;
     }
     at == s.len()
 }

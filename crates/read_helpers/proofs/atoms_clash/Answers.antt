@@ -12,23 +12,8 @@ use Rattle.read_helpers.proofs.atoms_clash.Goals as goal
 pub loop-i-init : goal.loop-i-init
 loop-i-init c = search words_laws
 
-pub offset_bounds-atoms-i : goal.offset_bounds-atoms-i
-offset_bounds-atoms-i c = search words_laws
-
-pub bounds-atoms-i : goal.bounds-atoms-i
-bounds-atoms-i c = search words_laws
-
-pub atom_clashes-requires : goal.atom_clashes-requires
-atom_clashes-requires c = search words_laws
-
 pub returns-then-atom_clashes : goal.returns-then-atom_clashes
 returns-then-atom_clashes c = search words_laws
-
-pub overflow_add-i : goal.overflow_add-i
-overflow_add-i c = search words_laws
-
-pub loop-i-smaller : goal.loop-i-smaller
-loop-i-smaller c = search words_laws
 
 pub loop-i-preserved : goal.loop-i-preserved
 loop-i-preserved c = search words_laws

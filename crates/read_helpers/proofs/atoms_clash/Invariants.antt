@@ -10,8 +10,5 @@ use Rattle.read_helpers.proofs.ClashLaws.{word_at, words_laws}
 use Rattle.read_helpers.proofs.atoms_clash.Given as goal
 
 abbrev pub invariant-loop-i : goal.invariant-loop-i
-invariant-loop-i l = (l.n ≤ 8) × (some_from (word_at word_atom l.helpers l.atoms) l.i l.n
+invariant-loop-i l = (some_from (word_at word_atom l.helpers l.atoms) l.i l.n
     ≡ clashing l.helpers (roles_of_atoms (map word_atom (take l.n l.atoms))))
-
-abbrev pub decreases-loop-i : goal.decreases-loop-i
-decreases-loop-i l = l.n - l.i

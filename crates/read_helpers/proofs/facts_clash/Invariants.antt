@@ -9,8 +9,5 @@ use Rattle.read_helpers.proofs.ClashLaws.{word_at, words_laws}
 use Rattle.read_helpers.proofs.facts_clash.Given as goal
 
 abbrev pub invariant-loop-i : goal.invariant-loop-i
-invariant-loop-i l = (l.count ≤ length l.table) × (some_from (word_at word_fact l.helpers l.table) l.i l.count
+invariant-loop-i l = (some_from (word_at word_fact l.helpers l.table) l.i l.count
     ≡ clashing l.helpers (roles_of_atoms (facts_in l.table l.count)))
-
-abbrev pub decreases-loop-i : goal.decreases-loop-i
-decreases-loop-i l = l.count - l.i

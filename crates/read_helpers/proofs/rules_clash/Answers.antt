@@ -12,23 +12,8 @@ use Rattle.read_helpers.proofs.rules_clash.Goals as goal
 pub loop-i-init : goal.loop-i-init
 loop-i-init c = search rules_laws
 
-pub overflow_mul-i : goal.overflow_mul-i
-overflow_mul-i c = search rules_laws
-
-pub four-requires : goal.four-requires
-four-requires c = search rules_laws
-
-pub record_clashes-requires : goal.record_clashes-requires
-record_clashes-requires c = search rules_laws
-
 pub returns-then-record_clashes : goal.returns-then-record_clashes
 returns-then-record_clashes c = search rules_laws
-
-pub overflow_add-i : goal.overflow_add-i
-overflow_add-i c = search rules_laws
-
-pub loop-i-smaller : goal.loop-i-smaller
-loop-i-smaller c = search rules_laws
 
 pub loop-i-preserved : goal.loop-i-preserved
 loop-i-preserved c = search rules_laws

@@ -12,6 +12,3 @@ use Rattle.read_helpers.proofs.rules_clash.Given as goal
 abbrev pub invariant-loop-i : goal.invariant-loop-i
 invariant-loop-i l = (some_from (record_at l.partners l.helpers l.s) l.i (length l.s / rule_bytes)
     ≡ clashing l.helpers (roles_of_rules (rules_as_written l.partners sheet_width l.s)))
-
-abbrev pub decreases-loop-i : goal.decreases-loop-i
-decreases-loop-i l = length l.s / rule_bytes - l.i

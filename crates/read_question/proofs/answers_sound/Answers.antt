@@ -11,26 +11,8 @@ use Rattle.read_question.proofs.answers_sound.Goals as goal
 pub loop-i-init : goal.loop-i-init
 loop-i-init c = search laws
 
-pub overflow_mul-i : goal.overflow_mul-i
-overflow_mul-i c = search laws
-
-pub overflow_add-from : goal.overflow_add-from
-overflow_add-from c = search laws
-
-pub three-requires : goal.three-requires
-three-requires c = search laws
-
-pub answer_sound-requires : goal.answer_sound-requires
-answer_sound-requires c = search laws
-
 pub returns-then-not-answer_sound : goal.returns-then-not-answer_sound
 returns-then-not-answer_sound c = search laws
-
-pub overflow_add-i : goal.overflow_add-i
-overflow_add-i c = search laws
-
-pub loop-i-smaller : goal.loop-i-smaller
-loop-i-smaller c = search laws
 
 pub loop-i-preserved : goal.loop-i-preserved
 loop-i-preserved c = search laws

@@ -10,8 +10,5 @@ use Rattle.read_question.proofs.answers_sound.Given as goal
 
 abbrev pub invariant-loop-i : goal.invariant-loop-i
 invariant-loop-i l =
-    (l.i ≤ l.n) × (all (answer_sound sheet_width) (left (answer_bytes sheet_width) l.s l.from l.n l.i)
+    (all (answer_sound sheet_width) (left (answer_bytes sheet_width) l.s l.from l.n l.i)
     ≡ all (answer_sound sheet_width) (answers_from l.s l.from l.n))
-
-abbrev pub decreases-loop-i : goal.decreases-loop-i
-decreases-loop-i l = l.n - l.i

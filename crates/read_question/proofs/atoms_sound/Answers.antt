@@ -11,26 +11,8 @@ use Rattle.read_question.proofs.atoms_sound.Goals as goal
 pub loop-i-init : goal.loop-i-init
 loop-i-init c = search laws
 
-pub overflow_mul-i : goal.overflow_mul-i
-overflow_mul-i c = search laws
-
-pub overflow_add-from : goal.overflow_add-from
-overflow_add-from c = search laws
-
-pub six-requires : goal.six-requires
-six-requires c = search laws
-
-pub atom_sound-requires : goal.atom_sound-requires
-atom_sound-requires c = search laws
-
 pub returns-then-not-atom_sound : goal.returns-then-not-atom_sound
 returns-then-not-atom_sound c = search laws
-
-pub overflow_add-i : goal.overflow_add-i
-overflow_add-i c = search laws
-
-pub loop-i-smaller : goal.loop-i-smaller
-loop-i-smaller c = search laws
 
 pub loop-i-preserved : goal.loop-i-preserved
 loop-i-preserved c = search laws

@@ -10,8 +10,5 @@ use Rattle.read_question.proofs.atoms_sound.Given as goal
 
 abbrev pub invariant-loop-i : goal.invariant-loop-i
 invariant-loop-i l =
-    (l.i ≤ l.n) × (all (atom_sound sheet_width) (left (record_bytes sheet_width) l.s l.from l.n l.i)
+    (all (atom_sound sheet_width) (left (record_bytes sheet_width) l.s l.from l.n l.i)
     ≡ all (atom_sound sheet_width) (atoms_from l.s l.from l.n))
-
-abbrev pub decreases-loop-i : goal.decreases-loop-i
-decreases-loop-i l = l.n - l.i

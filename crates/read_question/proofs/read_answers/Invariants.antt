@@ -12,9 +12,6 @@ use Rattle.read_question.proofs.read_answers.Given as goal
 
 abbrev pub invariant-loop-i : goal.invariant-loop-i
 invariant-loop-i l =
-    (l.i ≤ l.n) × (l.n ≤ length l.words) × TermWords l.words
+    (l.n ≤ length l.words) × TermWords l.words
     × (map word_term (take l.i l.words) ++ map (term_of sheet_width) (left (answer_bytes sheet_width) l.s l.from l.n l.i)
     ≡ map (term_of sheet_width) (answers_from l.s l.from l.n))
-
-abbrev pub decreases-loop-i : goal.decreases-loop-i
-decreases-loop-i l = l.n - l.i

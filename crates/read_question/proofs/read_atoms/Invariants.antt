@@ -11,9 +11,6 @@ use Rattle.read_question.proofs.read_atoms.Given as goal
 
 abbrev pub invariant-loop-i : goal.invariant-loop-i
 invariant-loop-i l =
-    (l.i ≤ l.n) × (l.n ≤ length l.words)
+    (l.n ≤ length l.words)
     × (map word_atom (take l.i l.words) ++ map (atom_read l.partners) (left (record_bytes sheet_width) l.s l.from l.n l.i)
     ≡ map (atom_read l.partners) (atoms_from l.s l.from l.n))
-
-abbrev pub decreases-loop-i : goal.decreases-loop-i
-decreases-loop-i l = l.n - l.i

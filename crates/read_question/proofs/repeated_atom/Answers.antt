@@ -4,29 +4,8 @@ use Rattle.theory.specs.Laws.Scans.{some_from}
 use Rattle.read_question.proofs.QuestionTests.{laws, again_at}
 use Rattle.read_question.proofs.repeated_atom.Goals as goal
 
-pub loop-i-init : goal.loop-i-init
-loop-i-init c = search laws
-
-pub overflow_add-i : goal.overflow_add-i
-overflow_add-i c = search laws
-
-pub offset_bounds-atoms-i : goal.offset_bounds-atoms-i
-offset_bounds-atoms-i c = search laws
-
-pub bounds-atoms-i : goal.bounds-atoms-i
-bounds-atoms-i c = search laws
-
-pub stands_again-requires : goal.stands_again-requires
-stands_again-requires c = search laws
-
 pub returns-then-stands_again : goal.returns-then-stands_again
 returns-then-stands_again c = search laws
-
-pub overflow_add-i-in-loop-i : goal.overflow_add-i-in-loop-i
-overflow_add-i-in-loop-i c = search laws
-
-pub loop-i-smaller : goal.loop-i-smaller
-loop-i-smaller c = search laws
 
 pub loop-i-preserved : goal.loop-i-preserved
 loop-i-preserved c = search laws

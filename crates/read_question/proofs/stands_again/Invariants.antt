@@ -8,9 +8,5 @@ use Rattle.read_question.proofs.stands_again.Given as goal
 
 abbrev pub invariant-loop-i : goal.invariant-loop-i
 invariant-loop-i l =
-    (l.i ≤ l.n)
-    × (some_from (test_at (same_atom (word_atom l.a)) word_atom l.atoms) l.i l.n
+    (some_from (test_at (same_atom (word_atom l.a)) word_atom l.atoms) l.i l.n
     ≡ some_from (test_at (same_atom (word_atom l.a)) word_atom l.atoms) l.from l.n)
-
-abbrev pub decreases-loop-i : goal.decreases-loop-i
-decreases-loop-i l = l.n - l.i

@@ -5,7 +5,4 @@ use Rattle.read_question.proofs.QuestionTests.{laws, stands_at}
 use Rattle.read_question.proofs.stands_in.Given as goal
 
 abbrev pub invariant-loop-i : goal.invariant-loop-i
-invariant-loop-i l = (l.i ≤ l.n) × (some_from (stands_at l.t l.atoms) l.i l.n ≡ some_from (stands_at l.t l.atoms) 0 l.n)
-
-abbrev pub decreases-loop-i : goal.decreases-loop-i
-decreases-loop-i l = l.n - l.i
+invariant-loop-i l = (some_from (stands_at l.t l.atoms) l.i l.n ≡ some_from (stands_at l.t l.atoms) 0 l.n)

@@ -4,23 +4,8 @@ use Rattle.read_rules.proofs.all_named.Goals as goal
 pub loop-i-init : goal.loop-i-init
 loop-i-init c = search all_laws
 
-pub overflow_mul-i : goal.overflow_mul-i
-overflow_mul-i c = search all_laws
-
-pub four-requires : goal.four-requires
-four-requires c = search all_laws
-
-pub is_named-requires : goal.is_named-requires
-is_named-requires c = search all_laws
-
 pub returns-then-not-is_named : goal.returns-then-not-is_named
 returns-then-not-is_named c = search all_laws
-
-pub overflow_add-i : goal.overflow_add-i
-overflow_add-i c = search all_laws
-
-pub loop-i-smaller : goal.loop-i-smaller
-loop-i-smaller c = search all_laws
 
 pub loop-i-preserved : goal.loop-i-preserved
 loop-i-preserved c = search all_laws

@@ -10,6 +10,3 @@ use Rattle.read_rules.proofs.all_named.Given as goal
 
 abbrev pub invariant-loop-i : goal.invariant-loop-i
 invariant-loop-i l = all passes2 (rest l.s l.i) ≡ all passes2 (rule_records l.s)
-
-abbrev pub decreases-loop-i : goal.decreases-loop-i
-decreases-loop-i l = length l.s / rule_bytes - l.i

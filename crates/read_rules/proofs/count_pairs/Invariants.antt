@@ -7,7 +7,4 @@ use Rattle.read_rules.specs.Filling.{rest}
 use Rattle.read_rules.proofs.count_pairs.Given as goal
 
 abbrev pub invariant-loop-i : goal.invariant-loop-i
-invariant-loop-i l = (l.pairs ≤ l.i) × (l.i ≤ length l.s / rule_bytes) × (l.pairs + pairs_in (rest l.s l.i) ≡ pairs_in (rule_records l.s))
-
-abbrev pub decreases-loop-i : goal.decreases-loop-i
-decreases-loop-i l = length l.s / rule_bytes - l.i
+invariant-loop-i l = (l.pairs ≤ l.i) × (l.pairs + pairs_in (rest l.s l.i) ≡ pairs_in (rule_records l.s))

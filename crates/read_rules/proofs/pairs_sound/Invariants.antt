@@ -10,6 +10,3 @@ use Rattle.read_rules.proofs.pairs_sound.Given as goal
 
 abbrev pub invariant-loop-i : goal.invariant-loop-i
 invariant-loop-i l = pairs_sound l.waits (rest l.s l.i) ≡ pairs_sound false (rule_records l.s)
-
-abbrev pub decreases-loop-i : goal.decreases-loop-i
-decreases-loop-i l = length l.s / rule_bytes - l.i

@@ -4,14 +4,8 @@ use Rattle.read_rules.proofs.take_one.Goals as goal
 pub rule_as_read-requires : goal.rule_as_read-requires
 rule_as_read-requires c = search fill_laws
 
-pub offset_bounds-table-count : goal.offset_bounds-table-count
-offset_bounds-table-count c = search fill_laws
-
 pub bounds-table-count : goal.bounds-table-count
 bounds-table-count c = search fill_laws
-
-pub shape_of-table : goal.shape_of-table
-shape_of-table c = search fill_laws
 
 pub returns : goal.returns
 returns c = search fill_laws

@@ -7,7 +7,4 @@ use Rattle.read_shown.proofs.ShownLaws.{laws}
 use Rattle.read_shown.proofs.member_start.Given as goal
 
 abbrev pub invariant-loop-j : goal.invariant-loop-j
-invariant-loop-j l = (l.j ≤ l.m) × (l.at ≡ member_start sheet_width l.s l.j)
-
-abbrev pub decreases-loop-j : goal.decreases-loop-j
-decreases-loop-j l = l.m - l.j
+invariant-loop-j l = (l.at ≡ member_start sheet_width l.s l.j)

@@ -8,8 +8,5 @@ use Rattle.read_union.proofs.fill_union.Given as goal
 
 abbrev pub invariant-loop-row : goal.invariant-loop-row
 invariant-loop-row l =
-    (l.row ≤ l.count) × (l.at ≡ member_start sheet_width l.s l.row) × (length l.table ≡ length l.initial.table)
+    (l.at ≡ member_start sheet_width l.s l.row) × (length l.table ≡ length l.initial.table)
     × RowsBelow l.partners l.s l.table l.row
-
-abbrev pub decreases-loop-row : goal.decreases-loop-row
-decreases-loop-row l = l.count - l.row

@@ -1,8 +1,5 @@
 use Rattle.read_records.proofs.PartnerLaws.{laws}
 use Rattle.read_records.proofs.partners.is_higher.Goals as goal
 
-pub partner-requires : goal.partner-requires
-partner-requires c = search laws
-
 pub returns : goal.returns
 returns c = search laws

@@ -1,9 +1,6 @@
 use Rattle.read_records.proofs.RecordLaws.{laws}
 use Rattle.read_records.proofs.terms.answer_sound.Goals as goal
 
-pub term_sound-requires : goal.term_sound-requires
-term_sound-requires c = search laws
-
 pub returns-then-x-lt-SHEET_TERM_BOUND : goal.returns-then-x-lt-SHEET_TERM_BOUND
 returns-then-x-lt-SHEET_TERM_BOUND c = search laws
 
