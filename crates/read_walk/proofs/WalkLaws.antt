@@ -10,9 +10,9 @@ use lib.ListN.{length, get_or-eq_default}
 use borrow.Author.Count.{below_more}
 use borrow.Author.Rules.{rules}
 use borrow.Author.Tests.{le-leb, lt-leb, leb-true}
-use Rattle.theory.specs.Lists.{pick, all, numbers}
+use Rattle.theory.specs.Lists.{all, numbers}
 use Rattle.theory.specs.Laws.Lists.{all_iff, numbers_iff}
-use Rattle.theory.specs.Laws.Options.{T_and, is_false, pick_true}
+use Rattle.theory.specs.Laws.Options.{T_and, is_false}
 use Rattle.words.specs.Words.{query_of}
 use Rattle.words.specs.declared.QueryWords.{QueryWords}
 use Rattle.words.specs.Limits.{sheet_width, most_members, step_bytes}
@@ -22,7 +22,7 @@ use Rattle.sheets.proofs.Laws.UnionRefusals.{start_rises}
 use Rattle.sheets.proofs.Laws.UnionLengths.{first_begins, next_start, accepted, refused, too_short, too_long}
 use Rattle.sheets.specs.Partners.{query_as_read}
 use Rattle.sheets.specs.Tests.{question_sound, refuses4, refuses5, member_sound_at, member_sound, refuses6}
-use Rattle.read_walk.specs.Ends.{member_end, whole_and_sound, end_if_sound}
+use Rattle.read_walk.specs.Ends.{member_end, whole_and_sound}
 
 -- ---- where members begin and end
 
@@ -64,17 +64,16 @@ module _ (p s : List ℕ) (arity at : ℕ) where
 
 -- ---- a member's end, if it is whole and sound
 
-pub end_beyond : (p s : List ℕ) (arity at end : ℕ) → end ≡ member_end s at → length s < end → 0 ≡ end_if_sound p arity s at
-end_beyond p s arity at end e h = rw (lt-leb (member_end s at) (length s) (omega arith))
+module _ (p s : List ℕ) (arity at end : ℕ) (e : end ≡ member_end s at) where
+  pub end_beyond : length s < end → whole_and_sound p arity s at ≡ false
+  end_beyond h = rw (lt-leb (member_end s at) (length s) (omega arith))
 
-module _ (p s : List ℕ) (arity at end : ℕ) (e : end ≡ member_end s at) (h : end ≤ length s)
-    (b : Bool) (d : b ≡ member_sound_at p sheet_width arity s (at + step_bytes))
-  where
-    pub end_unsound : b ≡ false → 0 ≡ end_if_sound p arity s at
+  module _ (h : end ≤ length s) (b : Bool) (d : b ≡ member_sound_at p sheet_width arity s (at + step_bytes)) where
+    pub end_unsound : b ≡ false → whole_and_sound p arity s at ≡ false
     end_unsound f = rw (le-leb (member_end s at) (length s) (omega arith), ← d, f)
 
-    pub end_sound : b ≡ true → end ≡ end_if_sound p arity s at
-    end_sound t = rw (le-leb (member_end s at) (length s) (omega arith), ← d, t) e
+    pub end_sound : b ≡ true → whole_and_sound p arity s at ≡ true
+    end_sound t = rw (le-leb (member_end s at) (length s) (omega arith), ← d, t)
 
 -- ---- the loop over the members
 
@@ -85,16 +84,7 @@ SoundBelow p arity s n = (i : ℕ) → i < n → T (member_sound p sheet_width a
 pub none_below : (p s : List ℕ) (arity : ℕ) → SoundBelow p arity s 0
 none_below p s arity i h = absurd (omega arith)
 
--- whether a number or 0 was picked
-picked : (b : Bool) (x n : ℕ) → n ≡ pick b x 0 → (n ≡ 0 → ⊥) → T b
-picked true x n e f = tt
-picked false x n e f = absurd (f e)
-
-not_picked : (b : Bool) (x n : ℕ) → n ≡ pick b x 0 → n ≡ 0 → 0 < x → ¬ T b
-not_picked true x n e z h = absurd (omega arith)
-not_picked false x n e z h = λ t. t
-
-module _ (p s : List ℕ) (arity count at j end : ℕ) (begins : at ≡ member_start sheet_width s j) (e : end ≡ end_if_sound p arity s at) where
+module _ (p s : List ℕ) (arity count at j : ℕ) (begins : at ≡ member_start sheet_width s j) where
   ends_here : member_end s at ≡ member_start sheet_width s (suc j)
   ends_here = ap (λ a. member_end s a) begins ∙ next_start s j
 
@@ -102,33 +92,26 @@ module _ (p s : List ℕ) (arity count at j end : ℕ) (begins : at ≡ member_s
   unfolding member_sound
   sound_here = ap (λ a. member_sound_at p sheet_width arity s (a + step_bytes)) begins
 
-  pub member_fails : end ≡ 0 → j < count
+  pub member_fails : whole_and_sound p arity s at ≡ false → j < count
       → false ≡ (eqb (member_start sheet_width s count) (length s) && all (member_sound p sheet_width arity s) (numbers 0 count))
-  member_fails z h = sym (is_false _ (λ t.
+  member_fails none h = sym (is_false _ (λ t.
       let a = (T_and (eqb (member_start sheet_width s count) (length s))
       (all (member_sound p sheet_width arity s) (numbers 0 count))).0 t in
       let ends_there : member_start sheet_width s count ≡ length s = eqb→eq (member_start sheet_width s count) (length s) a.0 in
       let whole = le→leb (member_end s at) (length s) (omega (arith, ends_here, start_rises sheet_width s (suc j) count h)) in
       let sound = (all_iff (member_sound p sheet_width arity s) (numbers 0 count)).0 a.1 j ((numbers_iff count j).1 h) in
-      not_picked (whole_and_sound p arity s at) (member_end s at) end e z (omega arith)
-      ((T_and (leb (member_end s at) (length s)) (member_sound_at p sheet_width arity s (at + step_bytes))).1
+      subst T none ((T_and (leb (member_end s at) (length s)) (member_sound_at p sheet_width arity s (at + step_bytes))).1
       (whole, subst T (sym sound_here) sound))))
 
-  module _ (more : end ≡ 0 → ⊥) where
-    passes : T (whole_and_sound p arity s at)
-    passes = picked (whole_and_sound p arity s at) (member_end s at) end e more
-
+  module _ (end : ℕ) (e : end ≡ member_end s at) (passes : whole_and_sound p arity s at ≡ true) where
     parts : T (leb (member_end s at) (length s)) × T (member_sound_at p sheet_width arity s (at + step_bytes))
-    parts = (T_and (leb (member_end s at) (length s)) (member_sound_at p sheet_width arity s (at + step_bytes))).0 passes
-
-    ends : end ≡ member_end s at
-    ends = e ∙ pick_true (whole_and_sound p arity s at) (member_end s at) 0 passes
+    parts = (T_and (leb (member_end s at) (length s)) (member_sound_at p sheet_width arity s (at + step_bytes))).0 (subst T (sym passes) tt)
 
     pub next_begins : end ≡ member_start sheet_width s (j + 1)
-    next_begins = rw (add-one j) (ends ∙ ends_here)
+    next_begins = rw (add-one j) (e ∙ ends_here)
 
     pub next_within : end ≤ length s
-    next_within = rw ends (leb→le (member_end s at) (length s) parts.0)
+    next_within = rw e (leb→le (member_end s at) (length s) parts.0)
 
     pub next_sound : SoundBelow p arity s j → SoundBelow p arity s (j + 1)
     next_sound below = below_more (λ i. T (member_sound p sheet_width arity s i)) j below (subst T sound_here parts.1)

@@ -1,6 +1,5 @@
 -- Where a member ends on a union sheet, and whether it is whole and sound.
 use Rattle.std.specs.Prelude.{ℕ, ◌+◌, Bool, ◌&&◌, List, leb, length}
-use Rattle.theory.specs.Lists.{pick}
 use Rattle.words.specs.Limits.{sheet_width, step_bytes}
 use Rattle.sheets.specs.Format.{question_length}
 use Rattle.sheets.specs.Tests.{member_sound_at}
@@ -12,7 +11,3 @@ member_end s at = at + step_bytes + question_length sheet_width s (at + step_byt
 -- that member ends within the sheet and is sound
 abbrev pub whole_and_sound : List ℕ → ℕ → List ℕ → ℕ → Bool
 whole_and_sound partners arity s at = leb (member_end s at) (length s) && member_sound_at partners sheet_width arity s (at + step_bytes)
-
--- its end, if it is whole and sound, and else 0
-abbrev pub end_if_sound : List ℕ → ℕ → List ℕ → ℕ → ℕ
-end_if_sound partners arity s at = pick (whole_and_sound partners arity s at) (member_end s at) 0

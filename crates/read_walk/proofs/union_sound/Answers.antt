@@ -1,12 +1,6 @@
 use Rattle.read_walk.proofs.WalkLaws.{laws}
 use Rattle.read_walk.proofs.union_sound.Goals as goal
 
-pub member_count-count-requires : goal.member_count-count-requires
-member_count-count-requires c = search laws
-
-pub members_sound-requires : goal.members_sound-requires
-members_sound-requires c = search laws
-
 pub returns-in-1-to-512 : goal.returns-in-1-to-512
 returns-in-1-to-512 c = search laws
 
