@@ -1,9 +1,6 @@
 use Rattle.read_shown.proofs.ShownLaws.{laws}
 use Rattle.read_shown.proofs.member_place.Goals as goal
 
-pub has_member-requires : goal.has_member-requires
-has_member-requires c = search laws
-
 pub member_start-start-requires : goal.member_start-start-requires
 member_start-start-requires c = search laws
 

@@ -7,7 +7,7 @@ use Rattle.read_union.proofs.RowLaws.{RowsBelow, laws}
 use Rattle.read_union.proofs.fill_union.Goals as goal
 
 pub loop-row-init : goal.loop-row-init
-loop-row-init c = (search laws, search laws, search laws, search laws)
+loop-row-init c = (search laws, search laws, search laws)
 
 pub four-step-requires : goal.four-step-requires
 four-step-requires c = search laws
@@ -18,29 +18,8 @@ overflow_add-at c = search laws
 pub read_query-q-requires : goal.read_query-q-requires
 read_query-q-requires c = search laws
 
-pub overflow_mul-row : goal.overflow_mul-row
-overflow_mul-row c = search laws
-
-pub member_words-requires : goal.member_words-requires
-member_words-requires c = search laws
-
-pub put_row-requires : goal.put_row-requires
-put_row-requires c = search laws
-
-pub member_end-at-requires : goal.member_end-at-requires
-member_end-at-requires c = search laws
-
-pub overflow_add-row : goal.overflow_add-row
-overflow_add-row c = search laws
-
-pub loop-row-smaller : goal.loop-row-smaller
-loop-row-smaller c = search laws
-
 pub loop-row-preserved : goal.loop-row-preserved
-loop-row-preserved c = (search laws, search laws, search laws, search laws)
-
-pub shape_of-table : goal.shape_of-table
-shape_of-table c = search laws
+loop-row-preserved c = (search laws, search laws, search laws)
 
 pub returns : goal.returns
 returns c = (search laws, search laws, search laws)
