@@ -24,5 +24,5 @@ pub fn with(set: u32, v: u32) -> u32
 pub fn lowest_missing(set: u32) -> u32
     ensures { (result ≤ 32) × ((u : ℕ) → u < result → T (holds set u)) × (result < 32 → ¬ T (holds set result)) }
 {
-    u32::trailing_zeros(!set)
+    (!set).trailing_zeros()
 }

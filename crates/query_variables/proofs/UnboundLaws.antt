@@ -52,9 +52,9 @@ places_at t atoms k = count (same_term (word_term t)) (args (word_atom (get_or a
 -- ---- unbound
 
 module _ (q : Query) (t : ℕ) (v : Bool) (is : v ≡ eqb (t / word_object_bound) 0) where
-  pub object_bound_lem : v ≡ false → false ≡ unbound q (word_term t)
+  pub object_bound_lem : (r : Bool) → v ≡ false → r ≡ false → r ≡ unbound q (word_term t)
   unfolding unbound term_of
-  object_bound_lem e = simp (sym is ∙ e)
+  object_bound_lem r e h = h ∙ simp (sym is ∙ e)
 
   unbound_tests : v ≡ true
       → unbound q (word_term t)
@@ -62,12 +62,12 @@ module _ (q : Query) (t : ℕ) (v : Bool) (is : v ≡ eqb (t / word_object_bound
   unfolding unbound term_of
   unbound_tests e = simp (sym is ∙ e)
 
-  pub answer_bound : (b : Bool) → v ≡ true → b ≡ any (same_term (word_term t)) q.answers → b ≡ true
-      → false ≡ unbound q (word_term t)
-  answer_bound b e f h = sym (unbound_tests e ∙ simp (sym f ∙ h, and-false))
+  -- loose: whether the term is not among the answer terms
+  module _ (b loose : Bool) (e : v ≡ true) (f : b ≡ any (same_term (word_term t)) q.answers) (k : loose ≡ not b) where
+    pub answer_bound : loose ≡ false → loose ≡ unbound q (word_term t)
+    answer_bound h = sym (unbound_tests e ∙ simp (sym f, sym k, h, and-false))
 
-  pub count_decides : (b : Bool) (n : ℕ) → v ≡ true → b ≡ any (same_term (word_term t)) q.answers → b ≡ false
-      → n ≡ count (same_term (word_term t)) (places q.atoms) → eqb n 1 ≡ unbound q (word_term t)
-  count_decides b n e f h i = simp i (sym (unbound_tests e ∙ simp (sym f ∙ h, and-true)))
+    pub count_decides : (n : ℕ) → loose ≡ true → n ≡ count (same_term (word_term t)) (places q.atoms) → eqb n 1 ≡ unbound q (word_term t)
+    count_decides n h i = simp i (sym (unbound_tests e ∙ simp (sym f, sym k, h, and-true)))
 
 pub ruleset laws = (rules, spellings, query_scans, word_below, one_place, two_places, object_bound_lem, answer_bound, count_decides)

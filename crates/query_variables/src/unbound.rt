@@ -8,23 +8,16 @@ ghost use Rattle.words.specs.Limits.{word_term_bound};
 
 use words::{QueryWords, first_term, is_variable, kind_of, same_term, second_term};
 
-// 1 where the test passed.
-fn one_if(test: bool) -> u64
-    ensures { (result ≡ pick test 1 0) × (result ≤ 1) }
-{
-    if test { 1 } else { 0 }
-}
-
 // At how many places of the atom the term stands.
 fn places_of(a: u64, t: u64) -> u64
     requires { t < word_term_bound }
     ensures { (result ≡ count (same_term (word_term t)) (args (word_atom a))) × (result ≤ 2) }
 {
-    let first = one_if(same_term(t, first_term(a)));
+    let first = u64::from(same_term(t, first_term(a)));
     if kind_of(a) == 0 {
         first
     } else {
-        first + one_if(same_term(t, second_term(a)))
+        first + u64::from(same_term(t, second_term(a)))
     }
 }
 
@@ -33,13 +26,9 @@ fn count_places(q: QueryWords, t: u64) -> u64
     requires { Small q × (t < word_term_bound) }
     ensures { result ≡ count (same_term (word_term t)) (places (query_of q).atoms) }
 {
-    let atoms = q.atoms;
-    let n = q.size;
-    let mut found: u64 = 0;
-    let mut i: usize = 0;
-    while i < n {
-        found += places_of(atoms[i], t);
-        i += 1;
+    let mut found = 0;
+    for i in 0..q.size {
+        found += places_of(q.atoms[i], t);
     }
     found
 }
@@ -49,14 +38,10 @@ fn in_answers(q: QueryWords, t: u64) -> bool
     requires { Small q × (t < word_term_bound) }
     ensures { result ≡ any (same_term (word_term t)) (query_of q).answers }
 {
-    let answers = q.answers;
-    let n = q.terms;
-    let mut i: usize = 0;
-    while i < n {
-        if same_term(t, answers[i]) {
+    for i in 0..q.terms {
+        if same_term(t, q.answers[i]) {
             return true;
         }
-        i += 1;
     }
     false
 }
@@ -66,13 +51,5 @@ pub fn unbound(q: QueryWords, t: u64) -> bool
     requires { Small q × (t < word_term_bound) }
     ensures { result ≡ unbound_in (query_of q) (word_term t) }
 {
-    if is_variable(t) {
-        if in_answers(q, t) {
-            false
-        } else {
-            count_places(q, t) == 1
-        }
-    } else {
-        false
-    }
+    is_variable(t) && !in_answers(q, t) && count_places(q, t) == 1
 }

@@ -35,13 +35,9 @@ fn with_answers(q: QueryWords, set: u32) -> u32
     requires { Small q }
     ensures { AddsVariables (query_of q).answers set result }
 {
-    let answers = q.answers;
-    let n = q.terms;
     let mut all = set;
-    let mut i: usize = 0;
-    while i < n {
-        all = with_term(all, answers[i]);
-        i += 1;
+    for i in 0..q.terms {
+        all = with_term(all, q.answers[i]);
     }
     all
 }
@@ -51,13 +47,9 @@ fn with_atoms(q: QueryWords, set: u32) -> u32
     requires { Small q }
     ensures { AddsVariables (places (query_of q).atoms) set result }
 {
-    let atoms = q.atoms;
-    let n = q.size;
     let mut all = set;
-    let mut k: usize = 0;
-    while k < n {
-        all = with_atom(all, atoms[k]);
-        k += 1;
+    for k in 0..q.size {
+        all = with_atom(all, q.atoms[k]);
     }
     all
 }

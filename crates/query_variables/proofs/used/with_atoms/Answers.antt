@@ -6,20 +6,8 @@ use Rattle.query_variables.proofs.used.with_atoms.Goals as goal
 pub loop-k-init : goal.loop-k-init
 loop-k-init c = search laws
 
-pub offset_bounds-atoms-k : goal.offset_bounds-atoms-k
-offset_bounds-atoms-k c = search laws
-
-pub bounds-atoms-k : goal.bounds-atoms-k
-bounds-atoms-k c = search laws
-
 pub with_atom-all-requires : goal.with_atom-all-requires
 with_atom-all-requires c = search laws
-
-pub overflow_add-k : goal.overflow_add-k
-overflow_add-k c = search laws
-
-pub loop-k-smaller : goal.loop-k-smaller
-loop-k-smaller c = search laws
 
 pub loop-k-preserved : goal.loop-k-preserved
 loop-k-preserved c = search laws
