@@ -41,7 +41,7 @@ fn role_code(t: u64, u: u64) -> u64
     requires { (t < word_term_bound) × (u < word_term_bound) }
     ensures { (result ≡ pick (same_term (word_term t) (word_term u)) 4 3) × (result ≤ 4) }
 {
-    if same_term(t, u) { 4 } else { 3 }
+    3 + u64::from(same_term(t, u))
 }
 
 // The number of an atom.
@@ -87,13 +87,9 @@ fn first_colours(q: QueryWords) -> [u64; 32]
     requires { Small q }
     ensures { ColoursOf (colours_after 0 (query_of q)) result }
 {
-    let answers = q.answers;
-    let n = q.terms;
     let mut all = [0u64; 32];
-    let mut i: usize = 0;
-    while i < n {
-        give(&mut all, answers[i], mixed(4 * (i as u64) + 1, 0, 0));
-        i += 1;
+    for i in 0..q.terms {
+        give(&mut all, q.answers[i], mixed(4 * (i as u64) + 1, 0, 0));
     }
     all
 }
@@ -103,13 +99,9 @@ fn next_colours(q: QueryWords, colours: &[u64; 32]) -> [u64; 32]
     requires { Small q }
     ensures { ColoursOf (next (query_of q) (colour_in colours.now)) result }
 {
-    let atoms = q.atoms;
-    let n = q.size;
     let mut all = [0u64; 32];
-    let mut i: usize = 0;
-    while i < n {
-        give_atom(&mut all, colours, atoms[i]);
-        i += 1;
+    for i in 0..q.size {
+        give_atom(&mut all, colours, q.atoms[i]);
     }
     all
 }
@@ -119,13 +111,9 @@ fn answers_sum(q: QueryWords, colours: &[u64; 32]) -> u64
     requires { Small q }
     ensures { (result ≡ along (mix_answer (colour_by (colour_in colours.now))) 0 (query_of q).answers) × (result ≤ 4 * top) }
 {
-    let answers = q.answers;
-    let n = q.terms;
-    let mut sum: u64 = 0;
-    let mut i: usize = 0;
-    while i < n {
-        sum += mixed(4 * (i as u64) + 1, colour_of(colours, answers[i]), 0);
-        i += 1;
+    let mut sum = 0;
+    for i in 0..q.terms {
+        sum += mixed(4 * (i as u64) + 1, colour_of(colours, q.answers[i]), 0);
     }
     sum
 }
@@ -135,13 +123,9 @@ fn atoms_sum(q: QueryWords, colours: &[u64; 32]) -> u64
     requires { Small q }
     ensures { (result ≡ total (mix_atom (colour_by (colour_in colours.now))) (query_of q).atoms) × (result ≤ 8 * top) }
 {
-    let atoms = q.atoms;
-    let n = q.size;
-    let mut sum: u64 = 0;
-    let mut i: usize = 0;
-    while i < n {
-        sum += mixed_atom(colours, atoms[i]);
-        i += 1;
+    let mut sum = 0;
+    for i in 0..q.size {
+        sum += mixed_atom(colours, q.atoms[i]);
     }
     sum
 }

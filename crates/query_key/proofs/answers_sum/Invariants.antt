@@ -6,7 +6,4 @@ use Rattle.query_key.proofs.LoopLaws.{answers_sum}
 use Rattle.query_key.proofs.answers_sum.Given as goal
 
 abbrev pub invariant-loop-i : goal.invariant-loop-i
-invariant-loop-i l = (l.i ≤ l.n) × (l.sum ≤ l.i * top) × (l.sum ≡ answers_sum (colour_by (colour_in l.colours)) l.answers l.i)
-
-abbrev pub decreases-loop-i : goal.decreases-loop-i
-decreases-loop-i l = l.n - l.i
+invariant-loop-i l = (l.sum ≤ l.i * top) × (l.sum ≡ answers_sum (colour_by (colour_in l.colours)) l.q.answers l.i)

@@ -5,7 +5,4 @@ use Rattle.query_key.proofs.LoopLaws.{atoms_give}
 use Rattle.query_key.proofs.next_colours.Given as goal
 
 abbrev pub invariant-loop-i : goal.invariant-loop-i
-invariant-loop-i l = (l.i ≤ l.n) × Upto (2 * l.i) l.all × ColoursOf (atoms_give (colour_by (colour_in l.colours)) l.atoms l.i) l.all
-
-abbrev pub decreases-loop-i : goal.decreases-loop-i
-decreases-loop-i l = l.n - l.i
+invariant-loop-i l = Upto (2 * l.i) l.all × ColoursOf (atoms_give (colour_by (colour_in l.colours)) l.q.atoms l.i) l.all
