@@ -29,37 +29,31 @@ pub fn nothing() -> Partial
 }
 
 // The partial renaming with v sent to w.
-pub fn assign(m: Partial, v: u32, w: u32) -> Partial
+pub fn assign(mut m: Partial, v: u32, w: u32) -> Partial
     requires { (v < 32) × (w < 32) }
     ensures { Sends m v w result }
 {
-    let mut to = m.to;
-    to[v as usize] = w as u8;
-    let taken = with(m.taken, w);
-    Partial { to, taken }
+    m.to[v as usize] = w as u8;
+    m.taken = with(m.taken, w);
+    m
 }
 
 // Whether v may still go to w.
-fn may_go(m: Partial, v: u32, w: u32) -> bool
+fn may_go(m: &Partial, v: u32, w: u32) -> bool
     requires { (v < 32) × (w < 32) }
-    ensures { result ≡ may_become m (var v) (var w) }
+    ensures { result ≡ may_become m.now (var v) (var w) }
 {
-    let to = m.to;
-    let u = to[v as usize] as u32;
+    let u = u32::from(m.to[v as usize]);
     if u == 32 { !has(m.taken, w) } else { u == w }
 }
 
 // Whether the term s may still become t. The word of an object is higher than 32, and no other term has it.
-fn may_be(m: Partial, s: u64, t: u64) -> bool
+fn may_be(m: &Partial, s: u64, t: u64) -> bool
     requires { LowTerm s × LowTerm t × (s < word_term_bound) × (t < word_term_bound) }
-    ensures { result ≡ may_become m (word_term s) (word_term t) }
+    ensures { result ≡ may_become m.now (word_term s) (word_term t) }
 {
     if s < 32 {
-        if t < 32 {
-            may_go(m, s as u32, t as u32)
-        } else {
-            false
-        }
+        t < 32 && may_go(m, s as u32, t as u32)
     } else {
         s == t
     }
@@ -69,87 +63,58 @@ fn may_be(m: Partial, s: u64, t: u64) -> bool
 pub fn same_predicate(a: u64, b: u64) -> bool
     ensures { result ≡ same_predicate (word_atom a) (word_atom b) }
 {
-    if kind_of(a) == kind_of(b) {
-        number_of(a) == number_of(b)
-    } else {
-        false
-    }
+    kind_of(a) == kind_of(b) && number_of(a) == number_of(b)
 }
 
 // Whether the atom a may still become b, which has its predicate.
-fn may_terms(m: Partial, a: u64, b: u64) -> bool
+fn may_terms(m: &Partial, a: u64, b: u64) -> bool
     requires { LowAtom a × LowAtom b × (same_predicate (word_atom a) (word_atom b) ≡ true) }
-    ensures { result ≡ on_atoms (may_become m) (word_atom a) (word_atom b) }
+    ensures { result ≡ on_atoms (may_become m.now) (word_atom a) (word_atom b) }
 {
-    if may_be(m, first_term(a), first_term(b)) {
-        if kind_of(a) == 0 {
-            true
-        } else {
-            may_be(m, second_term(a), second_term(b))
-        }
-    } else {
-        false
-    }
+    may_be(m, first_term(a), first_term(b)) && (kind_of(a) == 0 || may_be(m, second_term(a), second_term(b)))
 }
 
 // Whether the atom a may still become b.
-pub fn may_atom(m: Partial, a: u64, b: u64) -> bool
+pub fn may_atom(m: &Partial, a: u64, b: u64) -> bool
     requires { LowAtom a × LowAtom b }
-    ensures { result ≡ on_atoms (may_become m) (word_atom a) (word_atom b) }
+    ensures { result ≡ on_atoms (may_become m.now) (word_atom a) (word_atom b) }
 {
-    if same_predicate(a, b) {
-        may_terms(m, a, b)
-    } else {
-        false
-    }
+    same_predicate(a, b) && may_terms(m, a, b)
 }
 
 // Whether the atom a may still become some atom of q.
-fn goes_somewhere(m: Partial, a: u64, q: QueryWords) -> bool
+fn goes_somewhere(m: &Partial, a: u64, q: QueryWords) -> bool
     requires { LowAtom a × Small q }
-    ensures { result ≡ any (λ b. on_atoms (may_become m) (word_atom a) b) (query_of q).atoms }
+    ensures { result ≡ any (λ b. on_atoms (may_become m.now) (word_atom a) b) (query_of q).atoms }
 {
-    let atoms = q.atoms;
-    let n = q.size;
-    let mut i: usize = 0;
-    while i < n {
-        if may_atom(m, a, atoms[i]) {
+    for i in 0..q.size {
+        if may_atom(m, a, q.atoms[i]) {
             return true;
         }
-        i += 1;
     }
     false
 }
 
 // Whether some atom of p may still become the atom b.
-fn comes_from_some(m: Partial, p: QueryWords, b: u64) -> bool
+fn comes_from_some(m: &Partial, p: QueryWords, b: u64) -> bool
     requires { Small p × LowAtom b }
-    ensures { result ≡ any (λ a. on_atoms (may_become m) a (word_atom b)) (query_of p).atoms }
+    ensures { result ≡ any (λ a. on_atoms (may_become m.now) a (word_atom b)) (query_of p).atoms }
 {
-    let atoms = p.atoms;
-    let n = p.size;
-    let mut i: usize = 0;
-    while i < n {
-        if may_atom(m, atoms[i], b) {
+    for i in 0..p.size {
+        if may_atom(m, p.atoms[i], b) {
             return true;
         }
-        i += 1;
     }
     false
 }
 
 // Whether each atom of p may still become one of q.
-fn all_go(m: Partial, p: QueryWords, q: QueryWords) -> bool
+fn all_go(m: &Partial, p: QueryWords, q: QueryWords) -> bool
     requires { Small p × Small q }
-    ensures { result ≡ all (λ a. any (λ b. on_atoms (may_become m) a b) (query_of q).atoms) (query_of p).atoms }
+    ensures { result ≡ all (λ a. any (λ b. on_atoms (may_become m.now) a b) (query_of q).atoms) (query_of p).atoms }
 {
-    let atoms = p.atoms;
-    let n = p.size;
-    let mut i: usize = 0;
-    while i < n {
-        if goes_somewhere(m, atoms[i], q) {
-            i += 1;
-        } else {
+    for i in 0..p.size {
+        if !goes_somewhere(m, p.atoms[i], q) {
             return false;
         }
     }
@@ -157,17 +122,12 @@ fn all_go(m: Partial, p: QueryWords, q: QueryWords) -> bool
 }
 
 // Whether each atom of q may still come from one of p.
-fn all_come(m: Partial, p: QueryWords, q: QueryWords) -> bool
+fn all_come(m: &Partial, p: QueryWords, q: QueryWords) -> bool
     requires { Small p × Small q }
-    ensures { result ≡ all (λ b. any (λ a. on_atoms (may_become m) a b) (query_of p).atoms) (query_of q).atoms }
+    ensures { result ≡ all (λ b. any (λ a. on_atoms (may_become m.now) a b) (query_of p).atoms) (query_of q).atoms }
 {
-    let atoms = q.atoms;
-    let n = q.size;
-    let mut i: usize = 0;
-    while i < n {
-        if comes_from_some(m, p, atoms[i]) {
-            i += 1;
-        } else {
+    for i in 0..q.size {
+        if !comes_from_some(m, p, q.atoms[i]) {
             return false;
         }
     }
@@ -175,21 +135,15 @@ fn all_come(m: Partial, p: QueryWords, q: QueryWords) -> bool
 }
 
 // Whether the answer terms of p may still become those of q, in order.
-fn answers_go(m: Partial, p: QueryWords, q: QueryWords) -> bool
+fn answers_go(m: &Partial, p: QueryWords, q: QueryWords) -> bool
     requires { Small p × Small q }
-    ensures { result ≡ pairwise (may_become m) (query_of p).answers (query_of q).answers }
+    ensures { result ≡ pairwise (may_become m.now) (query_of p).answers (query_of q).answers }
 {
-    let from = p.answers;
-    let to = q.answers;
-    let n = p.terms;
-    if n != q.terms {
+    if p.terms != q.terms {
         return false;
     }
-    let mut i: usize = 0;
-    while i < n {
-        if may_be(m, from[i], to[i]) {
-            i += 1;
-        } else {
+    for i in 0..p.terms {
+        if !may_be(m, p.answers[i], q.answers[i]) {
             return false;
         }
     }
@@ -197,14 +151,9 @@ fn answers_go(m: Partial, p: QueryWords, q: QueryWords) -> bool
 }
 
 // Whether no answer term and no atom speaks against the partial renaming.
-pub fn promising(m: Partial, p: QueryWords, q: QueryWords) -> bool
+pub fn promising(m: &Partial, p: QueryWords, q: QueryWords) -> bool
     requires { Small p × Small q }
-    ensures { result ≡ promising_in (may_become m) (query_of p) (query_of q) }
+    ensures { result ≡ promising_in (may_become m.now) (query_of p) (query_of q) }
 {
-    if answers_go(m, p, q) {
-        if all_go(m, p, q) {
-            return all_come(m, p, q);
-        }
-    }
-    false
+    answers_go(m, p, q) && all_go(m, p, q) && all_come(m, p, q)
 }

@@ -9,9 +9,5 @@ use Rattle.query_partial.proofs.all_come.Given as goal
 
 abbrev pub invariant-loop-i : goal.invariant-loop-i
 invariant-loop-i l =
-    (l.i ≤ l.n)
-    × (all_from (test_at (λ b. any (λ a. on_atoms (may_become l.m) a b) (query_of l.p).atoms) word_atom l.atoms) l.i l.n
-    ≡ all_from (test_at (λ b. any (λ a. on_atoms (may_become l.m) a b) (query_of l.p).atoms) word_atom l.atoms) 0 l.n)
-
-abbrev pub decreases-loop-i : goal.decreases-loop-i
-decreases-loop-i l = l.n - l.i
+    (all_from (test_at (λ b. any (λ a. on_atoms (may_become l.m) a b) (query_of l.p).atoms) word_atom l.q.atoms) l.i l.q.size
+    ≡ all_from (test_at (λ b. any (λ a. on_atoms (may_become l.m) a b) (query_of l.p).atoms) word_atom l.q.atoms) 0 l.q.size)

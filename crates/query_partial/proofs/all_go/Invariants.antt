@@ -9,9 +9,5 @@ use Rattle.query_partial.proofs.all_go.Given as goal
 
 abbrev pub invariant-loop-i : goal.invariant-loop-i
 invariant-loop-i l =
-    (l.i ≤ l.n)
-    × (all_from (test_at (λ a. any (λ b. on_atoms (may_become l.m) a b) (query_of l.q).atoms) word_atom l.atoms) l.i l.n
-    ≡ all_from (test_at (λ a. any (λ b. on_atoms (may_become l.m) a b) (query_of l.q).atoms) word_atom l.atoms) 0 l.n)
-
-abbrev pub decreases-loop-i : goal.decreases-loop-i
-decreases-loop-i l = l.n - l.i
+    (all_from (test_at (λ a. any (λ b. on_atoms (may_become l.m) a b) (query_of l.q).atoms) word_atom l.p.atoms) l.i l.p.size
+    ≡ all_from (test_at (λ a. any (λ b. on_atoms (may_become l.m) a b) (query_of l.q).atoms) word_atom l.p.atoms) 0 l.p.size)

@@ -8,9 +8,5 @@ use Rattle.query_partial.proofs.answers_go.Given as goal
 
 abbrev pub invariant-loop-i : goal.invariant-loop-i
 invariant-loop-i l =
-    (l.i ≤ l.n)
-    × (all_from (λ k. may_become l.m (word_term (get_or l.from k 0)) (word_term (get_or l.to k 0))) l.i l.n
-    ≡ all_from (λ k. may_become l.m (word_term (get_or l.from k 0)) (word_term (get_or l.to k 0))) 0 l.n)
-
-abbrev pub decreases-loop-i : goal.decreases-loop-i
-decreases-loop-i l = l.n - l.i
+    (all_from (λ k. may_become l.m (word_term (get_or l.p.answers k 0)) (word_term (get_or l.q.answers k 0))) l.i l.p.terms
+    ≡ all_from (λ k. may_become l.m (word_term (get_or l.p.answers k 0)) (word_term (get_or l.q.answers k 0))) 0 l.p.terms)

@@ -8,9 +8,5 @@ use Rattle.query_partial.proofs.comes_from_some.Given as goal
 
 abbrev pub invariant-loop-i : goal.invariant-loop-i
 invariant-loop-i l =
-    (l.i ≤ l.n)
-    × (some_from (test_at (λ a. on_atoms (may_become l.m) a (word_atom l.b)) word_atom l.atoms) l.i l.n
-    ≡ some_from (test_at (λ a. on_atoms (may_become l.m) a (word_atom l.b)) word_atom l.atoms) 0 l.n)
-
-abbrev pub decreases-loop-i : goal.decreases-loop-i
-decreases-loop-i l = l.n - l.i
+    (some_from (test_at (λ a. on_atoms (may_become l.m) a (word_atom l.b)) word_atom l.p.atoms) l.i l.p.size
+    ≡ some_from (test_at (λ a. on_atoms (may_become l.m) a (word_atom l.b)) word_atom l.p.atoms) 0 l.p.size)

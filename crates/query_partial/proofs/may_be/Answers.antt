@@ -1,15 +1,6 @@
 use Rattle.query_partial.proofs.PartialLaws.{term_laws}
 use Rattle.query_partial.proofs.may_be.Goals as goal
 
-pub overflow_cast-s : goal.overflow_cast-s
-overflow_cast-s c = search term_laws
-
-pub overflow_cast-t : goal.overflow_cast-t
-overflow_cast-t c = search term_laws
-
-pub may_go-requires : goal.may_go-requires
-may_go-requires c = search term_laws
-
 pub returns-then-t-lt32 : goal.returns-then-t-lt32
 returns-then-t-lt32 c = search term_laws
 

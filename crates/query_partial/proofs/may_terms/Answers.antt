@@ -1,23 +1,8 @@
 use Rattle.query_partial.proofs.PartialLaws.{atom_laws}
 use Rattle.query_partial.proofs.may_terms.Goals as goal
 
-pub first_term-requires : goal.first_term-requires
-first_term-requires c = search atom_laws
-
-pub first_term-requires-2 : goal.first_term-requires-2
-first_term-requires-2 c = search atom_laws
-
 pub may_be-requires : goal.may_be-requires
 may_be-requires c = search atom_laws
-
-pub kind_of-requires : goal.kind_of-requires
-kind_of-requires c = search atom_laws
-
-pub second_term-requires : goal.second_term-requires
-second_term-requires c = search atom_laws
-
-pub second_term-requires-else-kind_of-eq0 : goal.second_term-requires-else-kind_of-eq0
-second_term-requires-else-kind_of-eq0 c = search atom_laws
 
 pub may_be-requires-else-kind_of-eq0 : goal.may_be-requires-else-kind_of-eq0
 may_be-requires-else-kind_of-eq0 c = (search atom_laws, search atom_laws, search atom_laws, search atom_laws)
