@@ -38,76 +38,49 @@ fn prepared(p: QueryWords, q: QueryWords) -> Compared
 }
 
 // Whether w is a variable of the second query that is not taken.
-fn free(s: Compared, m: Partial, w: u32) -> bool
+fn free(s: &Compared, m: &Partial, w: u32) -> bool
     requires { w < 32 }
-    ensures { result ≡ (holds s.targets w && not (holds m.taken w)) }
+    ensures { result ≡ (holds s.now.targets w && not (holds m.now.taken w)) }
 {
-    if has(s.targets, w) {
-        !has(m.taken, w)
-    } else {
-        false
-    }
+    has(s.targets, w) && !has(m.taken, w)
 }
 
 // Whether v, not assigned yet, may go to w as far as w alone tells: w is free, and as many variables stand beside it.
-fn offers(s: Compared, v: u32, w: u32, m: Partial) -> bool
-    requires { Ready s × (v < 32) × (w < 32) × (holds s.sources v ≡ true) × (entry m v ≡ 32) }
-    ensures { Offers s m v w result }
+fn offers(s: &Compared, v: u32, w: u32, m: &Partial) -> bool
+    requires { Ready s.now × (v < 32) × (w < 32) × (holds s.now.sources v ≡ true) × (entry m.now v ≡ 32) }
+    ensures { Offers s.now m.now v w result }
 {
-    let p = s.p;
-    let q = s.q;
-    if free(s, m, w) {
-        beside_alike(p, q, v, w)
-    } else {
-        false
-    }
+    free(s, m, w) && beside_alike(s.p, s.q, v, w)
 }
 
 // Whether the variable v, not assigned yet, has a target left against which nothing speaks.
-fn has_target(s: Compared, v: u32, m: Partial) -> bool
-    requires { Ready s × (v < 32) × (holds s.sources v ≡ true) × (entry m v ≡ 32) }
-    ensures { Allows s m result }
+fn has_target(s: &Compared, v: u32, m: &Partial) -> bool
+    requires { Ready s.now × (v < 32) × (holds s.now.sources v ≡ true) × (entry m.now v ≡ 32) }
+    ensures { Allows s.now m.now result }
 {
-    let p = s.p;
-    let q = s.q;
-    let mut x: u32 = 0;
-    while x < 32 {
-        if offers(s, v, x, m) {
-            if promising(assign(m, v, x), p, q) {
-                return true;
-            } else {
-                x += 1;
-            }
-        } else {
-            x += 1;
+    for x in 0..32 {
+        if offers(s, v, x, m) && promising(&assign(*m, v, x), s.p, s.q) {
+            return true;
         }
     }
     false
 }
 
 // Whether the variable v, if it is to be looked at, has a target left.
-fn still_open(s: Compared, look: u32, v: u32, m: Partial) -> bool
-    requires { Ready s × (v < 32) × (entry m v ≡ 32) }
-    ensures { Allows s m result }
+fn still_open(s: &Compared, look: u32, v: u32, m: &Partial) -> bool
+    requires { Ready s.now × (v < 32) × (entry m.now v ≡ 32) }
+    ensures { Allows s.now m.now result }
 {
-    if has(look, v) {
-        if has(s.sources, v) {
-            return has_target(s, v, m);
-        }
-    }
-    true
+    !has(look, v) || !has(s.sources, v) || has_target(s, v, m)
 }
 
 // Whether each variable from n on that is to be looked at has a target left.
-fn hopeful(s: Compared, look: u32, n: u32, m: Partial) -> bool
-    requires { Ready s × (n ≤ 32) × Begun (query_of s.p) n m }
-    ensures { Allows s m result }
+fn hopeful(s: &Compared, look: u32, n: u32, m: &Partial) -> bool
+    requires { Ready s.now × (n ≤ 32) × Begun (query_of s.now.p) n m.now }
+    ensures { Allows s.now m.now result }
 {
-    let mut v = n;
-    while v < 32 {
-        if still_open(s, look, v, m) {
-            v += 1;
-        } else {
+    for v in n..32 {
+        if !still_open(s, look, v, m) {
             return false;
         }
     }
@@ -115,17 +88,11 @@ fn hopeful(s: Compared, look: u32, n: u32, m: Partial) -> bool
 }
 
 // Whether nothing speaks against the partial renaming, v being assigned last, nor leaves a variable beside v without a target.
-fn viable(s: Compared, v: u32, m: Partial) -> bool
-    requires { Ready s × (v < 32) × Begun (query_of s.p) (v + 1) m }
-    ensures { Judges s m result }
+fn viable(s: &Compared, v: u32, m: &Partial) -> bool
+    requires { Ready s.now × (v < 32) × Begun (query_of s.now.p) (v + 1) m.now }
+    ensures { Judges s.now m.now result }
 {
-    let p = s.p;
-    let q = s.q;
-    if promising(m, p, q) {
-        hopeful(s, beside(p, v), v + 1, m)
-    } else {
-        false
-    }
+    promising(m, s.p, s.q) && hopeful(s, beside(s.p, v), v + 1, m)
 }
 
 // 02, T-05, "the renaming itself, variable by variable": whether there is one, and where each variable of the first query goes; 32 at
@@ -148,20 +115,20 @@ pub fn no_renaming() -> Renaming
 }
 
 // The targets of the partial renaming, in which every variable is assigned.
-fn all_of(m: Partial) -> Renaming
-    ensures { (result.found ≡ true) × (result.targets ≡ m.to) }
+fn all_of(m: &Partial) -> Renaming
+    ensures { (result.found ≡ true) × (result.targets ≡ m.now.to) }
 {
-    let targets = m.to;
     Renaming {
         found: true,
-        targets,
+        targets: m.to,
     }
 }
 
 // The smallest renaming that goes on from the partial one, in which the variables below v are assigned: targets are tried rising.
-fn complete(s: Compared, v: u32, m: Partial) -> Renaming
-    requires { Ready s × (v ≤ 32) × Begun (query_of s.p) v m × (promising_in (may_become m) (query_of s.p) (query_of s.q) ≡ true) }
-    ensures { Completes s m result.found result.targets }
+fn complete(s: &Compared, v: u32, m: &Partial) -> Renaming
+    requires { Ready s.now × (v ≤ 32) × Begun (query_of s.now.p) v m.now
+        × (promising_in (may_become m.now) (query_of s.now.p) (query_of s.now.q) ≡ true) }
+    ensures { Completes s.now m.now result.found result.targets }
 {
     if v == 32 {
         return all_of(m);
@@ -169,43 +136,35 @@ fn complete(s: Compared, v: u32, m: Partial) -> Renaming
     if !has(s.sources, v) {
         return complete(s, v + 1, m);
     }
-    let mut w: u32 = 0;
-    while w < 32 {
-        if offers(s, v, w, m) {
-            let next = assign(m, v, w);
-            if viable(s, v, next) {
-                let r = complete(s, v + 1, next);
-                if r.found {
-                    return r;
-                } else {
-                    w += 1;
-                }
-            } else {
-                w += 1;
-            }
-        } else {
-            w += 1;
+    for w in 0..32 {
+        if !offers(s, v, w, m) {
+            continue;
+        }
+        let next = assign(*m, v, w);
+        if !viable(s, v, &next) {
+            continue;
+        }
+        let r = complete(s, v + 1, &next);
+        if r.found {
+            return r;
         }
     }
     no_renaming()
 }
 
 // The smallest renaming, nothing being assigned yet.
-fn first_of(s: Compared, m: Partial) -> Renaming
-    requires { Ready s × Begun (query_of s.p) 0 m × (promising_in (may_become m) (query_of s.p) (query_of s.q) ≡ true) }
-    ensures { Completes s m result.found result.targets }
+fn first_of(s: &Compared, m: &Partial) -> Renaming
+    requires { Ready s.now × Begun (query_of s.now.p) 0 m.now
+        × (promising_in (may_become m.now) (query_of s.now.p) (query_of s.now.q) ≡ true) }
+    ensures { Completes s.now m.now result.found result.targets }
 {
-    let p = s.p;
-    let q = s.q;
-    if spread_alike(p, q) {
-        if hopeful(s, 0xFFFFFFFF, 0, m) {
-            complete(s, 0, m)
-        } else {
-            no_renaming()
-        }
-    } else {
-        no_renaming()
+    if !spread_alike(s.p, s.q) {
+        return no_renaming();
     }
+    if !hopeful(s, u32::MAX, 0, m) {
+        return no_renaming();
+    }
+    complete(s, 0, m)
 }
 
 // The smallest one-to-one renaming of variables that carries p to q, or that there is none.
@@ -214,8 +173,8 @@ pub fn rename(p: QueryWords, q: QueryWords) -> Renaming
     ensures { HandedBack (query_of p) (query_of q) result.found result.targets }
 {
     let m = nothing();
-    if promising(m, p, q) {
-        first_of(prepared(p, q), m)
+    if promising(&m, p, q) {
+        first_of(&prepared(p, q), &m)
     } else {
         no_renaming()
     }

@@ -6,7 +6,4 @@ abbrev pub decreases-complete : goal.decreases-complete
 decreases-complete l = 32 - l.v
 
 abbrev pub invariant-loop-w : goal.invariant-loop-w
-invariant-loop-w l = (l.w ≤ 32) × Seeks l.s l.m l.v l.w
-
-abbrev pub decreases-loop-w : goal.decreases-loop-w
-decreases-loop-w l = 32 - l.w
+invariant-loop-w l = Seeks l.s l.m l.v l.w
