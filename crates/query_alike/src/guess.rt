@@ -11,14 +11,20 @@ use query_sets::has;
 use query_variables::used::used;
 use words::{QueryWords, first_term, kind_of, second_term};
 
+// The shapes of the variables of the two queries.
+#[derive(Clone, Copy)]
+pub struct Shapes {
+    pub from: [u64; 32],
+    pub to: [u64; 32],
+}
+
 // v sent to w, if w is not taken and v has no target yet.
 fn sent_variable(m: Partial, v: u32, w: u32) -> Partial
     requires { Apart m × (v < 32) × (w < 32) }
     ensures { Apart result }
 {
-    let to = m.to;
-    if to[v as usize] == 32 {
-        if has(m.taken, w) { m } else { assign(m, v, w) }
+    if m.to[v as usize] == 32 && !has(m.taken, w) {
+        assign(m, v, w)
     } else {
         m
     }
@@ -29,12 +35,8 @@ fn sent(m: Partial, s: u64, t: u64) -> Partial
     requires { Apart m }
     ensures { Apart result }
 {
-    if s < 32 {
-        if t < 32 {
-            sent_variable(m, s as u32, t as u32)
-        } else {
-            m
-        }
+    if s < 32 && t < 32 {
+        sent_variable(m, s as u32, t as u32)
     } else {
         m
     }
@@ -54,118 +56,81 @@ fn sent_terms(m: Partial, a: u64, b: u64) -> Partial
 }
 
 // Whether the terms have one shape, as far as both are variables.
-fn same_shape(from: &[u64; 32], to: &[u64; 32], s: u64, t: u64) -> bool {
-    if s < 32 {
-        if t < 32 {
-            return from[s as usize] == to[t as usize];
-        }
-    }
-    true
+fn same_shape(shapes: &Shapes, s: u64, t: u64) -> bool {
+    s >= 32 || t >= 32 || shapes.from[s as usize] == shapes.to[t as usize]
 }
 
 // Whether the terms of the atoms, which are of one kind, have the same shapes.
-fn same_shapes(from: &[u64; 32], to: &[u64; 32], a: u64, b: u64) -> bool {
-    if same_shape(from, to, first_term(a), first_term(b)) {
-        if kind_of(a) == 0 {
-            true
-        } else {
-            same_shape(from, to, second_term(a), second_term(b))
-        }
-    } else {
-        false
-    }
+fn same_shapes(shapes: &Shapes, a: u64, b: u64) -> bool {
+    same_shape(shapes, first_term(a), first_term(b)) && (kind_of(a) == 0 || same_shape(shapes, second_term(a), second_term(b)))
 }
 
 // Whether a may still become b, and their terms have the same shapes.
-fn fits(m: Partial, a: u64, b: u64, from: &[u64; 32], to: &[u64; 32]) -> bool
+fn fits(m: &Partial, a: u64, b: u64, shapes: &Shapes) -> bool
     requires { LowAtom a × LowAtom b }
 {
-    if may_atom(m, a, b) {
-        same_shapes(from, to, a, b)
-    } else {
-        false
-    }
+    may_atom(m, a, b) && same_shapes(shapes, a, b)
 }
 
 // The terms of a sent to those of the first atom of q that it fits.
-fn guess_atom(m: Partial, a: u64, q: QueryWords, from: &[u64; 32], to: &[u64; 32]) -> Partial
+fn guess_atom(m: Partial, a: u64, q: QueryWords, shapes: &Shapes) -> Partial
     requires { Apart m × LowAtom a × Small q }
     ensures { Apart result }
 {
-    let atoms = q.atoms;
-    let n = q.size;
-    let mut i: usize = 0;
-    while i < n {
-        if fits(m, a, atoms[i], from, to) {
-            return sent_terms(m, a, atoms[i]);
+    for i in 0..q.size {
+        if fits(&m, a, q.atoms[i], shapes) {
+            return sent_terms(m, a, q.atoms[i]);
         }
-        i += 1;
     }
     m
 }
 
 // Each atom of p in order, its terms sent to those of the first atom of q that it fits.
-fn guess(p: QueryWords, q: QueryWords, from: &[u64; 32], to: &[u64; 32]) -> Partial
+fn guess(p: QueryWords, q: QueryWords, shapes: &Shapes) -> Partial
     requires { Small p × Small q }
     ensures { Apart result }
 {
-    let atoms = p.atoms;
-    let n = p.size;
     let mut m = nothing();
-    let mut i: usize = 0;
-    while i < n {
-        m = guess_atom(m, atoms[i], q, from, to);
-        i += 1;
+    for i in 0..p.size {
+        m = guess_atom(m, p.atoms[i], q, shapes);
     }
     m
 }
 
 // Whether v is in the set and has no target.
-fn unsent(set: u32, v: u32, m: Partial) -> bool
+fn unsent(set: u32, v: u32, m: &Partial) -> bool
     requires { v < 32 }
-    ensures { result ≡ (holds set v && eqb (entry m v) 32) }
+    ensures { result ≡ (holds set v && eqb (entry m.now v) 32) }
 {
-    let to = m.to;
-    if has(set, v) {
-        to[v as usize] == 32
-    } else {
-        false
-    }
+    has(set, v) && m.to[v as usize] == 32
 }
 
 // Whether every variable of p has a target.
-fn all_sent(p: QueryWords, m: Partial) -> bool
+fn all_sent(p: QueryWords, m: &Partial) -> bool
     requires { Small p }
-    ensures { result ≡ true → AllSent (query_of p) m }
+    ensures { result ≡ true → AllSent (query_of p) m.now }
 {
     let set = used(p);
-    let mut v: u32 = 0;
-    while v < 32 {
+    for v in 0..32 {
         if unsent(set, v, m) {
             return false;
         }
-        v += 1;
     }
     true
 }
 
 // Whether the partial renaming is a whole one that carries p to q.
-fn tested(p: QueryWords, q: QueryWords, m: Partial) -> bool
-    requires { Small p × Small q × Apart m }
+fn tested(p: QueryWords, q: QueryWords, m: &Partial) -> bool
+    requires { Small p × Small q × Apart m.now }
     ensures { result ≡ true → Alike (query_of p) (query_of q) }
 {
-    if all_sent(p, m) {
-        promising(m, p, q)
-    } else {
-        false
-    }
+    all_sent(p, m) && promising(m, p, q)
 }
 
 // Whether the guess by these shapes is a renaming that carries p to q.
-pub fn guessed(p: QueryWords, q: QueryWords, from: &[u64; 32], to: &[u64; 32]) -> bool
+pub fn guessed(p: QueryWords, q: QueryWords, shapes: &Shapes) -> bool
     requires { Small p × Small q }
     ensures { result ≡ true → Alike (query_of p) (query_of q) }
 {
-    let m = guess(p, q, from, to);
-    tested(p, q, m)
+    tested(p, q, &guess(p, q, shapes))
 }

@@ -9,7 +9,7 @@ ghost use Rattle.theory.specs.Renaming.{alike as alike_in};
 ghost use Rattle.theory.specs.Targets.{HandedBack};
 ghost use Rattle.words.specs.Words.{query_of, Small};
 
-use guess::guessed;
+use guess::{Shapes, guessed};
 use query_key::{key_of, shapes_of};
 use query_renaming::search::{Renaming, no_renaming, rename};
 use words::QueryWords;
@@ -20,17 +20,21 @@ pub fn alike(p: QueryWords, q: QueryWords) -> bool
     requires { Small p × Small q }
     ensures { result ≡ alike_in (query_of p) (query_of q) }
 {
-    let none = [0u64; 32];
-    if guessed(p, q, &none, &none) {
+    let none = Shapes {
+        from: [0; 32],
+        to: [0; 32],
+    };
+    if guessed(p, q, &none) {
         return true;
     }
-    let from = shapes_of(p);
-    let to = shapes_of(q);
-    if guessed(p, q, &from, &to) {
+    let shapes = Shapes {
+        from: shapes_of(p),
+        to: shapes_of(q),
+    };
+    if guessed(p, q, &shapes) {
         return true;
     }
-    let r = rename(p, q);
-    r.found
+    rename(p, q).found
 }
 
 // The smallest renaming that carries p to q, or that there is none. Queries with two keys have none, which is seen at once.

@@ -3,7 +3,4 @@ use Rattle.query_partial.specs.Partial.{Apart}
 use Rattle.query_alike.proofs.guess.guess.Given as goal
 
 abbrev pub invariant-loop-i : goal.invariant-loop-i
-invariant-loop-i l = (l.i ≤ l.n) × Apart l.m
-
-abbrev pub decreases-loop-i : goal.decreases-loop-i
-decreases-loop-i l = l.n - l.i
+invariant-loop-i l = Apart l.m
