@@ -1,9 +1,10 @@
 -- What is known of a question that was read into words, and what reading a question's sheet gives.
-use Rattle.std.specs.Prelude.{◌≡◌, ℕ, ◌+◌, ◌*◌, ◌≤◌, List, [], ◌∷◌}
+use Rattle.std.specs.Prelude.{◌≡◌, ℕ, ◌+◌, ◌*◌, ◌≤◌, List, [], ◌∷◌, Result, Ok, Err}
 use Rattle.theory.specs.Refusals.{first_refusal}
 use Rattle.words.specs.Limits.{sheet_width, most_terms, most_atoms, answer_bytes, record_bytes}
 use Rattle.words.specs.Words.{query_of, TermWords}
 use Rattle.words.specs.declared.QueryWords.{QueryWords}
+use Rattle.words.specs.declared.refusals.Refusal.{Refusal}
 use Rattle.sheets.specs.Format.{records_from, term_count, atom_count, query_at}
 use Rattle.sheets.specs.Partners.{query_as_read}
 use Rattle.sheets.specs.Refusals.{number_of, question_refusals}
@@ -26,6 +27,16 @@ pub record ReadFrom (partners s : List ℕ) (at : ℕ) (q : QueryWords) : Type 0
 pub record Judged (q : QueryWords) (number : ℕ) (r : QueryWords) : Type 0 where
   pub number_is : number ≡ number_of (first_refusal ((4, refuses4 (query_of q)) ∷ (5, refuses5 (query_of q)) ∷ []))
   pub same : number ≡ 0 → r ≡ q
+
+-- the question in words, on a refusal one without terms and atoms
+abbrev pub query_in : Result QueryWords Refusal → QueryWords
+query_in (Ok q) = q
+query_in (Err refusal) = record {
+  terms = 0;
+  answers = 0 ∷ 0 ∷ 0 ∷ 0 ∷ [];
+  size = 0;
+  atoms = 0 ∷ 0 ∷ 0 ∷ 0 ∷ 0 ∷ 0 ∷ 0 ∷ 0 ∷ [];
+}
 
 pub record QuestionRead (partners s : List ℕ) (number : ℕ) (q : QueryWords) : Type 0 where
   -- the number is that of the first of 3 to 5 that applies

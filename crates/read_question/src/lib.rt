@@ -7,15 +7,17 @@ ghost use Rattle.theory.specs.Syntax.{places, same_term, same_atom};
 ghost use Rattle.theory.specs.Laws.Scans.{some_from, test_at};
 ghost use Rattle.words.specs.Limits.{sheet_width, word_term_bound, most_terms, most_atoms, answer_bytes, record_bytes};
 ghost use Rattle.words.specs.Records.{term_of, atom_of};
+ghost use Rattle.words.specs.Refusals.{number_in};
 ghost use Rattle.words.specs.Words.{query_of, TermWords, word_term, word_atom};
 ghost use Rattle.sheets.specs.Format.{term_count, atom_count, question_length};
 ghost use Rattle.sheets.specs.Partners.{atom_as_read};
 ghost use Rattle.sheets.specs.Tests.{answer_sound, atom_sound, question_sound, covered as covered_by, refuses4, refuses5};
-ghost use Rattle.read_question.specs.QuestionWords.{ReadFrom, Judged, QuestionRead, answers_from, atoms_from, longest_counted};
+ghost use Rattle.read_question.specs.QuestionWords.{ReadFrom, Judged, QuestionRead, query_in, answers_from, atoms_from, longest_counted};
 
 use read_fields::bytes::{six, three};
 use read_records::terms::{answer_sound, atom_sound, atom_word, widen_term};
 use words::limits::{ANSWER_BYTES, ATOM_BYTES, MOST_ATOMS, MOST_TERMS};
+use words::refusals::Refusal;
 use words::{QueryWords, is_variable, same_atom, stands};
 
 // How many answer terms the question at byte `at` has, and how many atoms, in or out of range.
@@ -203,55 +205,32 @@ pub fn repeated_atom(q: QueryWords) -> bool
     false
 }
 
-// What reading a question gives: the number of its refusal, 0 for none, and the question.
-#[derive(Clone, Copy)]
-pub struct QueryRead {
-    pub number: u32,
-    pub query: QueryWords,
-}
-
-// No question, for a refusal.
-fn refused(number: u32) -> QueryRead
-    ensures { result.number ≡ number }
-{
-    let answers = [0u64; MOST_TERMS];
-    let atoms = [0u64; MOST_ATOMS];
-    let query = QueryWords {
-        terms: 0,
-        answers,
-        size: 0,
-        atoms,
-    };
-    QueryRead { number, query }
-}
-
 // Refusals 4 and 5, on a question that was read.
-fn judged(query: QueryWords) -> QueryRead
+fn judged(query: QueryWords) -> Result<QueryWords, Refusal>
     requires { (query.terms ≤ most_terms) × (query.size ≤ most_atoms) × TermWords query.answers }
-    ensures { Judged query result.number result.query }
+    ensures { Judged query (number_in result) (query_in result) }
 {
     if missing_answer(query) {
-        return refused(4);
+        return Err(Refusal::AnswerVariableNowhere);
     }
     if repeated_atom(query) {
-        return refused(5);
+        return Err(Refusal::AtomTwice);
     }
-    QueryRead { number: 0, query }
+    Ok(query)
 }
 
 // The question of a sheet as read, or the first of its refusals that applies.
-pub fn read_question(s: &[u8], partners: &[u16]) -> QueryRead
-    ensures { QuestionRead partners.now s.now result.number result.query }
+pub fn read_question(s: &[u8], partners: &[u16]) -> Result<QueryWords, Refusal>
+    ensures { QuestionRead partners.now s.now (number_in result) (query_in result) }
 {
     if s.len() == 0 {
-        return refused(3);
+        return Err(Refusal::QuestionMalformed);
     }
     if s.len() != question_length(s, 0) {
-        return refused(3);
+        return Err(Refusal::QuestionMalformed);
     }
-    if question_sound(s, 0) {
-        judged(read_query(s, 0, partners))
-    } else {
-        refused(3)
+    if !question_sound(s, 0) {
+        return Err(Refusal::QuestionMalformed);
     }
+    judged(read_query(s, 0, partners))
 }

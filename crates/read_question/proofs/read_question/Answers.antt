@@ -8,8 +8,8 @@ returns-then-s-eq0 c = search laws
 pub returns-then-s-question_length : goal.returns-then-s-question_length
 returns-then-s-question_length c = search laws
 
-pub returns-then-question_sound : goal.returns-then-question_sound
-returns-then-question_sound c = search laws
+pub returns-then-not-question_sound : goal.returns-then-not-question_sound
+returns-then-not-question_sound c = search laws
 
-pub returns-else-question_sound : goal.returns-else-question_sound
-returns-else-question_sound c = search laws
+pub returns : goal.returns
+returns c = search laws
