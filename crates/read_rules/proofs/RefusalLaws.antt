@@ -27,9 +27,8 @@ use Rattle.read_rules.specs.Filling.{FewRules}
 use Rattle.read_rules.specs.RuleWords.{RulesRead, HelpersRead, PairedRead}
 
 -- on a refusal there are none
-pub helpers_none : (p s : List ℕ) (number helpers : ℕ) (clash : Bool) (k : ℕ) → number ≡ k → leb 1 k ≡ true → helpers ≡ 0
-    → HelpersRead p s number helpers clash
-helpers_none p s number helpers clash k e l zero = record {
+pub helpers_none : (p s : List ℕ) (k : ℕ) → leb 1 k ≡ true → HelpersRead p s k 0 false
+helpers_none p s k l = record {
   helpers_are = λ z. absurd (let m : 1 ≤ k = leb-true 1 k l in omega arith);
   helpers_few = omega arith;
   clash_is = λ z. absurd (let m : 1 ≤ k = leb-true 1 k l in omega arith);
@@ -39,6 +38,10 @@ module _ (p s : List ℕ) where
   -- the number of the first that applies
   abbrev the_number : ℕ
   the_number = number_of (first_refusal (rule_refusals p sheet_width s))
+
+  pub rules_refused : (table : List ℕ) (k : ℕ) → leb 1 k ≡ true → k ≡ the_number → RulesRead p s table k 0
+  rules_refused table k one is =
+      sheet_refused the_number (rules_as_read p sheet_width s) (rules_in table) most_rules k 0 k refl one is refl
 
   -- as many rules as records and pairs
   module _ (named : all passes2 (rule_records s) ≡ true) (paired : pairs_sound false (rule_records s) ≡ true) (pairs : ℕ)
@@ -50,16 +53,16 @@ module _ (p s : List ℕ) where
         ∙ ap (λ k. length s / rule_bytes + k) (sym are)
 
     pub paired_many : (most : ℕ) → leb most_rules most ≡ true → most < length s / rule_bytes + pairs → (table : List ℕ)
-        (number count helpers : ℕ) (clash : Bool) → number ≡ 17 → count ≡ 0 → helpers ≡ 0 → PairedRead p s table number count helpers clash
-    paired_many most g h table number count helpers clash e z y =
+        → PairedRead p s table 17 0 0 false
+    paired_many most g h table =
         let over : most_rules < length (rules_as_read p sheet_width s) = let m = many in omega (arith, leb-true most_rules most g) in
         record {
-          number_is = e ∙ rw (lt-ltb most_rules (length (rules_as_read p sheet_width s)) over);
+          number_is = rw (lt-ltb most_rules (length (rules_as_read p sheet_width s)) over);
           read = λ none. absurd (omega arith);
           counted = λ none. absurd (omega arith);
-          none = λ f. z;
+          none = λ f. refl;
           few = omega arith;
-          in_use = helpers_none p s number helpers clash 17 e refl y;
+          in_use = helpers_none p s 17 refl;
         }
 
     module _ (most : ℕ) (g : leb most most_rules ≡ true) (h : length s / rule_bytes + pairs ≤ most) where
@@ -148,7 +151,7 @@ as_tested b c e t = sym e ∙ t
 pub ruleset refusal_laws = (
   rules,
   row_laws,
-  sheet_refused,
+  rules_refused,
   helpers_none,
   as_tested,
   rules_odd,

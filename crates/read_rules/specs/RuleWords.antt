@@ -1,13 +1,28 @@
 -- What reading a rule sheet gives.
-use Rattle.std.specs.Prelude.{◌≡◌, ℕ, ◌≤◌, Bool, List, ltb, length}
+use Rattle.std.specs.Prelude.{◌≡◌, ℕ, ◌≤◌, Bool, false, List, ltb, length, Result, Ok, Err}
 use Rattle.theory.specs.Lists.{pick}
 use Rattle.theory.specs.Refusals.{first_refusal}
 use Rattle.theory.specs.Qualified.{helpers_of, roles_of_rules, refuses18}
 use Rattle.words.specs.Limits.{sheet_width, most_rules}
 use Rattle.words.specs.Words.{rules_in}
+use Rattle.words.specs.declared.refusals.Refusal.{Refusal}
 use Rattle.sheets.specs.Reading.{rules_as_written, rules_as_read}
 use Rattle.sheets.specs.Refusals.{number_of, rule_refusals}
 use Rattle.read_records.specs.ReadInto.{ReadInto}
+use Rattle.read_rules.specs.declared.RuleSheet.{RuleSheet}
+
+-- how many rules a sheet is read as, how many helpers they use, and whether one stands in a rule as written; none on a refusal
+abbrev pub rule_count : Result RuleSheet Refusal → ℕ
+rule_count (Ok sheet) = sheet.count
+rule_count (Err refusal) = 0
+
+abbrev pub helper_count : Result RuleSheet Refusal → ℕ
+helper_count (Ok sheet) = sheet.helpers
+helper_count (Err refusal) = 0
+
+abbrev pub clash_in : Result RuleSheet Refusal → Bool
+clash_in (Ok sheet) = sheet.clash
+clash_in (Err refusal) = false
 
 -- the number is that of the first of 1, 2 and 17 that applies; where none does, the table's first `count` words are the sheet's rules as
 -- read, and the count is their number

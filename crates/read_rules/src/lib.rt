@@ -5,41 +5,30 @@ ghost use Rattle.std.specs.Prelude.{◌≡◌, ◌+◌, ◌-◌, ◌/◌, ◌<�
 ghost use Rattle.theory.specs.Lists.{pick, all};
 ghost use Rattle.words.specs.Limits.{sheet_width, most_rules, rule_bytes, most_rule_bytes};
 ghost use Rattle.words.specs.Records.{rule_kind};
+ghost use Rattle.words.specs.Refusals.{number_in};
 ghost use Rattle.words.specs.Words.{rules_in};
 ghost use Rattle.sheets.specs.Format.{rule_records, pairs_in};
 ghost use Rattle.sheets.specs.Reading.{rules_as_read};
 ghost use Rattle.sheets.specs.Tests.{passes2, pairs_sound};
 ghost use Rattle.sheets.specs.Laws.RecordLoops.{Nth};
 ghost use Rattle.read_rules.specs.Filling.{FewRules, FillingRules};
-ghost use Rattle.read_rules.specs.RuleWords.{RulesRead, HelpersRead, PairedRead};
+ghost use Rattle.read_rules.specs.RuleWords.{RulesRead, HelpersRead, PairedRead, rule_count, helper_count, clash_in};
 
 use read_fields::bytes::four;
 use read_helpers::rules_clash;
 use read_rule::pair::put_pair;
 use read_rule::{follows, is_named, rule_as_read};
 use words::limits::{FIRST_HELPER, MOST_RULE_BYTES, MOST_RULES, RULE_BYTES};
+use words::refusals::Refusal;
 use words::rules::rule_kind;
 
-// What reading a rule sheet gives: the number of its refusal, 0 for none; how many rules it is read as, and how many helpers they use,
-// both 0 on a refusal; and whether a helper in use stands in a rule as written, for which the list has a later place.
+// What reading a rule sheet gives: how many rules it is read as, and how many helpers they use; and whether a helper in use stands in a
+// rule as written, for which the list has a later place.
 #[derive(Clone, Copy)]
 pub struct RuleSheet {
-    pub number: u32,
     pub count: usize,
     pub helpers: u64,
     pub clash: bool,
-}
-
-// A refusal.
-fn refused(number: u32) -> RuleSheet
-    ensures { (result.number ≡ number) × (result.count ≡ 0) × (result.helpers ≡ 0) }
-{
-    RuleSheet {
-        number,
-        count: 0,
-        helpers: 0,
-        clash: false,
-    }
 }
 
 // Whether 2 refuses no record of the sheet.
@@ -147,47 +136,46 @@ fn fill_rules(s: &[u8], partners: &[u16], table: &mut [u64])
 }
 
 // Reads a sheet whose records are named and paired: 17 where that is too many rules.
-fn read_paired(s: &[u8], partners: &[u16], table: &mut [u64]) -> RuleSheet
+fn read_paired(s: &[u8], partners: &[u16], table: &mut [u64]) -> Result<RuleSheet, Refusal>
     requires { (most_rules ≤ length table.old) × (length s.now ≤ most_rule_bytes) × (all passes2 (rule_records s.now) ≡ true)
         × (pairs_sound false (rule_records s.now) ≡ true) }
     ensures kept { length table.new ≡ length table.old }
-    ensures read { PairedRead partners.now s.now table.new result.number result.count result.helpers
-        result.clash }
+    ensures read { PairedRead partners.now s.now table.new (number_in result) (rule_count result) (helper_count result)
+        (clash_in result) }
 {
     let pairs = count_pairs(s);
     let count = s.len() / RULE_BYTES + pairs;
     if count > MOST_RULES {
-        return refused(17);
+        return Err(Refusal::PairMalformed);
     }
     fill_rules(s, partners, table);
     let helpers = pairs as u64;
     let clash = rules_clash(s, partners, helpers);
-    RuleSheet {
-        number: 0,
+    Ok(RuleSheet {
         count,
         helpers,
         clash,
-    }
+    })
 }
 
-// Reads the rule sheet into the table, or gives the number of its first refusal and no rules.
-pub fn read_rules(s: &[u8], partners: &[u16], table: &mut [u64]) -> RuleSheet
+// Reads the rule sheet into the table, or gives its first refusal.
+pub fn read_rules(s: &[u8], partners: &[u16], table: &mut [u64]) -> Result<RuleSheet, Refusal>
     requires { most_rules ≤ length table.old }
     ensures kept { length table.new ≡ length table.old }
-    ensures rules { RulesRead partners.now s.now table.new result.number result.count }
-    ensures helpers { HelpersRead partners.now s.now result.number result.helpers result.clash }
+    ensures rules { RulesRead partners.now s.now table.new (number_in result) (rule_count result) }
+    ensures helpers { HelpersRead partners.now s.now (number_in result) (helper_count result) (clash_in result) }
 {
     if s.len() % RULE_BYTES != 0 {
-        return refused(1);
+        return Err(Refusal::RuleSheetLength);
     }
     if s.len() > MOST_RULE_BYTES {
-        return refused(1);
+        return Err(Refusal::RuleSheetLength);
     }
     if !all_named(s) {
-        return refused(2);
+        return Err(Refusal::NoSuchRule);
     }
     if !pairs_sound(s) {
-        return refused(17);
+        return Err(Refusal::PairMalformed);
     }
     read_paired(s, partners, table)
 }

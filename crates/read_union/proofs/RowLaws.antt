@@ -133,11 +133,11 @@ union_length p s =
 
 module _ (p s : List ℕ) (arity : ℕ) (r : Bool) (e : r ≡ not (refuses6 p sheet_width arity s)) where
   -- a refusal's own table is not said
-  pub union_refused : (table : List ℕ) (number count : ℕ) → r ≡ false → number ≡ 6 → count ≡ 0 → UnionRead p s arity table number count
-  union_refused table number count f six none = record {
+  pub union_refused : (table : List ℕ) → r ≡ false → UnionRead p s arity table 6 0
+  union_refused table f = record {
     sheet =
-        sheet_refused (pick (refuses6 p sheet_width arity s) 6 0) (union_as_read p sheet_width s) (union_in table) most_members number count
-        6 six refl (rw (not-false (refuses6 p sheet_width arity s) (sym e ∙ f))) none;
+        sheet_refused (pick (refuses6 p sheet_width arity s) 6 0) (union_as_read p sheet_width s) (union_in table) most_members 6 0
+        6 refl refl (rw (not-false (refuses6 p sheet_width arity s) (sym e ∙ f))) refl;
     some = λ zero. absurd (omega arith);
     narrow = record { each = λ j h. absurd (omega arith) };
   }

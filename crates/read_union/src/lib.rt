@@ -4,6 +4,7 @@
 ghost use Rattle.std.specs.Prelude.{◌≡◌, map, ◌≤◌, length};
 ghost use Rattle.theory.specs.Lists.{numbers};
 ghost use Rattle.words.specs.Limits.{sheet_width, most_members, most_union_bytes};
+ghost use Rattle.words.specs.Refusals.{number_in, count_in};
 ghost use Rattle.words.specs.Words.{union_in, table_words};
 ghost use Rattle.words.specs.Rows.{NarrowRows};
 ghost use Rattle.sheets.specs.Format.{member_at};
@@ -12,9 +13,9 @@ ghost use Rattle.read_union.specs.UnionRows.{Readable, UnionRead};
 
 use read_fields::bytes::four;
 use read_question::read_query;
-use read_records::{SheetRead, refused};
 use read_walk::{member_count, member_end, union_sound};
 use words::limits::{COUNT_BYTES, MEMBER_WORDS, STEP_BYTES};
+use words::refusals::Refusal;
 use words::rows::{member_words, put_row};
 
 // Reads the first `count` members of the sheet into the table's first rows.
@@ -35,17 +36,17 @@ fn fill_union(s: &[u8], partners: &[u16], table: &mut [u64], count: usize)
     }
 }
 
-// Reads the union sheet into the table, 16 words a member, unless it meets 6 for a question with so many answer terms.
-pub fn read_union(s: &[u8], partners: &[u16], arity: usize, table: &mut [u64]) -> SheetRead
+// Reads the union sheet into the table, 16 words a member, and gives their number, unless it meets 6 for a question with so many answer
+// terms.
+pub fn read_union(s: &[u8], partners: &[u16], arity: usize, table: &mut [u64]) -> Result<usize, Refusal>
     requires { table_words ≤ length table.old }
     ensures kept { length table.new ≡ length table.old }
-    ensures union { UnionRead partners.now s.now arity table.new result.number result.count }
+    ensures union { UnionRead partners.now s.now arity table.new (number_in result) (count_in result) }
 {
-    if union_sound(s, partners, arity) {
-        let count = member_count(s);
-        fill_union(s, partners, table, count);
-        SheetRead { number: 0, count }
-    } else {
-        refused(6)
+    if !union_sound(s, partners, arity) {
+        return Err(Refusal::UnionMalformed);
     }
+    let count = member_count(s);
+    fill_union(s, partners, table, count);
+    Ok(count)
 }

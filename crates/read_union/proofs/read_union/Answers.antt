@@ -7,5 +7,5 @@ member_count-count-requires c = search laws
 pub fill_union-requires : goal.fill_union-requires
 fill_union-requires c = search laws
 
-pub returns-then-union_sound-clause-union : goal.returns-then-union_sound-clause-union
-returns-then-union_sound-clause-union c = search laws
+pub returns-clause-union : goal.returns-clause-union
+returns-clause-union c = search laws
