@@ -3,11 +3,13 @@ use mathlib.Core.Path.{◌≡◌, refl, sym, ap, ◌∙◌, subst}
 use Prim.Native.Nat.{ℕ, zero, suc, ◌≤◌, ◌<◌}
 use native.Mathlib.Omega.{arith}
 use mathlib.Core.Bool.{Bool, true, false, not, ◌&&◌, and-true, and-false}
-use mathlib.Core.Option.{some}
+use mathlib.Core.Option.{Option as Maybe, none, some}
 use mathlib.Core.List.Memᴰ
 use lib.Dec.{eqb}
 use borrow.Author.Rules.{rules}
 use borrow.Author.Tests.{eq-eqb, ne_eqb, eqb-true, eqb-false}
+use Rattle.std.specs.Prelude.{Option, IfSome}
+use Rattle.std.specs.Bool.{then_some}
 use Rattle.theory.specs.Lists.{◌∈◌, pick, guard, and_then}
 use Rattle.theory.specs.Syntax.{Term, var, concept, role, named, has, has_inverse, Rule, concept_inclusion, role_inclusion, Query, args}
 use Rattle.theory.specs.Syntax.{instance, oriented}
@@ -31,7 +33,7 @@ use Rattle.words.specs.Words.{
 use Rattle.words.specs.declared.QueryWords.{QueryWords}
 use Rattle.words.specs.Laws.LowVariables.{concept_atom, role_atom, variable_word}
 use Rattle.words.specs.Limits.{word_object_bound}
-use Rattle.query_rule.specs.RuleOnAtom.{left_of, right_of, names, unnamed_none, made_low}
+use Rattle.query_rule.specs.RuleOnAtom.{term_found, left_of, right_of, names, unnamed_none, made_low}
 
 -- ---- the rule of a word
 
@@ -88,6 +90,15 @@ kind_test (suc zero) h true true = refl
 kind_test (suc zero) h true false = refl
 kind_test (suc zero) h false y = refl
 kind_test (suc (suc k)) h x y = absurd (omega arith)
+
+-- a term that is found where a test passes
+found_where : (b : Bool) (t : ℕ) → term_found (then_some b t) ≡ guard b (word_term t)
+found_where true t = refl
+found_where false t = refl
+
+pub found_below : (b : Bool) (t n : ℕ) (o : Option ℕ) → t < n → o ≡ then_some b t → IfSome o (λ k. k < n)
+found_below b t n o h e =
+    subst (λ r. IfSome r (λ k. k < n)) (sym e) (elim b as (λ c. IfSome (then_some c t) (λ k. k < n)) [ true ↦ h | false ↦ tt ])
 
 module _ (x a : ℕ) where
   names_words : names (rule_in x) (word_atom a)
@@ -153,24 +164,24 @@ module _ (x a : ℕ) where
     -- ---- the bearer
 
     module _ (q : Query) (k : rule_kind x ≡ 1) (f : ℕ) (fx : f ≡ right_form x) (t : ℕ) (e : t ≡ word_first a) where
-      pub bears_concept : f ≡ 0 → guard true (word_term t) ≡ bearer q (right_of x) (word_atom a)
+      pub bears_concept : f ≡ 0 → some (word_term t) ≡ bearer q (right_of x) (word_atom a)
       unfolding bearer
       bears_concept z = sym (simp (basic_named (right_form x) (right_name x) (sym fx ∙ z), on_concept k (sym fx ∙ z), tests.0, sym e))
 
-      module _ (u : ℕ) (b : Bool) (d : u ≡ word_second a) (nz : f ≡ 0 → ⊥) where
+      module _ (u : ℕ) (b : Bool) (o : Option ℕ) (d : u ≡ word_second a) (nz : f ≡ 0 → ⊥) where
         described_role : word_atom a ≡ role (word_name a) (first_of a) (second_of a)
         described_role = on_role (right_description x (rule_kind x) refl k f fx nz)
 
-        pub bears_first : f ≡ 1 → b ≡ unbound q (word_term u) → guard b (word_term t) ≡ bearer q (right_of x) (word_atom a)
+        pub bears_first : f ≡ 1 → b ≡ unbound q (word_term u) → o ≡ then_some b t → term_found o ≡ bearer q (right_of x) (word_atom a)
         unfolding bearer
-        bears_first g i = simp i (sym (simp (basic_has (right_form x) (right_name x) (sym fx ∙ g), described_role, tests.0, sym e, sym d)))
+        bears_first g i r = rw (r, found_where b t) (simp i (sym (simp (basic_has (right_form x) (right_name x) (sym fx ∙ g), described_role, tests.0, sym e, sym d))))
 
-        pub bears_second : (f ≡ 1 → ⊥) → b ≡ unbound q (word_term t) → guard b (word_term u) ≡ bearer q (right_of x) (word_atom a)
+        pub bears_second : (f ≡ 1 → ⊥) → b ≡ unbound q (word_term t) → o ≡ then_some b u → term_found o ≡ bearer q (right_of x) (word_atom a)
         unfolding bearer
-        bears_second g i =
+        bears_second g i r =
             let n : ℕ = right_name x in
             let inverse : right_of x ≡ has_inverse n = sym (ap (λ y. basic_of y n) fx) ∙ basic_inverse f n nz g in
-            simp i (sym (simp (inverse, described_role, tests.0, sym e, sym d)))
+            rw (r, found_where b u) (simp i (sym (simp (inverse, described_role, tests.0, sym e, sym d))))
 
 -- ---- the left side's instance
 
@@ -198,43 +209,37 @@ module _ (x w f n t u g h : ℕ) (fx : f ≡ right_form x) (nx : n ≡ left_name
 
 -- ---- what the rule makes
 
-pub nothing_low : (w : ℕ) → w ≡ 0 → LowAtom w
-unfolding atom_of
-nothing_low w e v m =
-    let d : var v ≡ var 0 = Memᴰ.eq_of_singleton (subst (λ y. var v ∈ args (word_atom y)) e m) in
-    let z : v ≡ 0 = cc in
-    omega arith
-
-module _ (q : QueryWords) (x a w : ℕ) (b : Bool) where
-  -- a rule of kind 1 on an atom of its right side's predicate, with the bearer t
-  module _ (t : ℕ) (k : rule_kind x ≡ 1) (h : guard b (word_term t) ≡ bearer (query_of q) (right_of x) (word_atom a)) where
+module _ (q : QueryWords) (x a : ℕ) where
+  -- a rule of kind 1 on an atom of its right side's predicate
+  module _ (k : rule_kind x ≡ 1) where
     -- the left description of what was found, if anything was
-    made : rewrite_atom (query_of q) (rule_in x) (word_atom a)
-        ≡ and_then (guard b (word_term t)) (λ s. some (instance (left_of x) s (var (fresh (query_of q)))))
+    made : (o : Maybe Term) → o ≡ bearer (query_of q) (right_of x) (word_atom a)
+        → rewrite_atom (query_of q) (rule_in x) (word_atom a)
+        ≡ and_then o (λ s. some (instance (left_of x) s (var (fresh (query_of q)))))
     unfolding rewrite_atom
-    made =
+    made o h =
         ap (λ r. rewrite_atom (query_of q) r (word_atom a)) (kind_1 x k)
         ∙ ap (λ o. and_then o (λ s. some (instance (left_of x) s (var (fresh (query_of q)))))) (sym h)
 
-    -- form and number of the left side, as they were read, and the fresh variable
-    module _ (f n z : ℕ) (fx : f ≡ left_form x) (nx : n ≡ left_name x) (e : b ≡ true) (zf : z ≡ fresh (query_of q))
-        (m : word_atom w ≡ instance (basic_of f n) (word_term t) (var z)) where
-      pub described : guard true (word_atom w) ≡ rewrite_atom (query_of q) (rule_in x) (word_atom a)
-      described = sym (made ∙ simp (e, sym zf, sym fx, sym nx, sym m))
+    -- the bearer t, form and number of the left side, as they were read, and the fresh variable
+    module _ (w t f n z : ℕ) (h : some (word_term t) ≡ bearer (query_of q) (right_of x) (word_atom a)) (fx : f ≡ left_form x)
+        (nx : n ≡ left_name x) (zf : z ≡ fresh (query_of q)) (m : word_atom w ≡ instance (basic_of f n) (word_term t) (var z)) where
+      pub described : some (word_atom w) ≡ rewrite_atom (query_of q) (rule_in x) (word_atom a)
+      described = sym (made (some (word_term t)) h ∙ simp (sym zf, sym fx, sym nx, sym m))
 
       pub described_low : Small q → LowAtom a → LowAtom w
       described_low s = made_low q (rule_in x) a w s described
 
-    pub no_bearer : (f : Bool) → b ≡ false → f ≡ false → guard f (word_atom w) ≡ rewrite_atom (query_of q) (rule_in x) (word_atom a)
-    no_bearer f e d = simp d (sym (made ∙ simp e))
+    pub no_bearer : none ≡ bearer (query_of q) (right_of x) (word_atom a) → none ≡ rewrite_atom (query_of q) (rule_in x) (word_atom a)
+    no_bearer h = sym (made none h)
 
-  module _ (h : b ≡ names (rule_in x) (word_atom a)) where
-    pub not_named : (f : Bool) → b ≡ false → f ≡ false → guard f (word_atom w) ≡ rewrite_atom (query_of q) (rule_in x) (word_atom a)
-    not_named f e d = ap (λ g. guard g (word_atom w)) d ∙ unnamed_none (query_of q) (rule_in x) (word_atom a) (sym h ∙ e)
+  module _ (b : Bool) (h : b ≡ names (rule_in x) (word_atom a)) where
+    pub not_named : b ≡ false → none ≡ rewrite_atom (query_of q) (rule_in x) (word_atom a)
+    not_named e = unnamed_none (query_of q) (rule_in x) (word_atom a) (sym h ∙ e)
 
-    module _ (e : b ≡ true) (k : ℕ) (kx : k ≡ rule_kind x) (nk : k ≡ 1 → ⊥)
+    module _ (w k : ℕ) (e : b ≡ true) (kx : k ≡ rule_kind x) (nk : k ≡ 1 → ⊥)
         (m : word_atom w ≡ oriented (eqb (right_form x) 1) (left_name x) (first_of a) (second_of a)) where
-      pub turned : guard true (word_atom w) ≡ rewrite_atom (query_of q) (rule_in x) (word_atom a)
+      pub turned : some (word_atom w) ≡ rewrite_atom (query_of q) (rule_in x) (word_atom a)
       unfolding rewrite_atom
       turned =
           sym (simp (kind_2 x (λ z. nk (kx ∙ z)), on_role x a (sym h ∙ e) (right_role x k kx nk), (tests x a (sym h ∙ e)).0, m))
@@ -260,8 +265,8 @@ pub ruleset spellings = (exchanged, differ_exchanged, test_exchanged, below_one,
 
 pub ruleset predicates = (right_concept, right_description, right_role, kind_is_1, predicate_decides, number_differs, is_named)
 
-pub ruleset descriptions = (bears_concept, bears_first, bears_second, made_concept, made_first, made_second, made_exchanged, made_kept)
+pub ruleset descriptions = (found_below, bears_concept, bears_first, bears_second, made_concept, made_first, made_second, made_exchanged, made_kept)
 
-pub ruleset results = (nothing_low, described, described_low, no_bearer, not_named, turned, turned_low)
+pub ruleset results = (described, described_low, no_bearer, not_named, turned, turned_low)
 
 pub ruleset laws = (rules, spellings, predicates, descriptions, results)

@@ -1,8 +1,7 @@
 -- What a rule makes of an atom, in words, and what is known of the atom that it makes.
-use Rattle.std.specs.Prelude.{◌≡◌, refl, ℕ, Bool, false, eqb}
+use Rattle.std.specs.Prelude.{◌≡◌, refl, ℕ, Bool, false, eqb, Option, Some, None}
 use Rattle.std.proofs.Common.{sym, inl, inr, arith}
-use Rattle.std.proofs.Math.Option.{Option, none, some}
-use Rattle.theory.specs.Lists.{guard}
+use Rattle.std.proofs.Math.Option.{Option as Maybe, none, some}
 use Rattle.theory.specs.Syntax.{
   Term,
   var,
@@ -22,14 +21,18 @@ use Rattle.theory.specs.Rewriting.{fresh, rewrite_atom}
 use Rattle.theory.specs.Laws.Rules.{Within}
 use Rattle.theory.proofs.Laws.Rules.{rewrite_image}
 use Rattle.words.specs.Records.{left_form, left_name, right_form, right_name, basic_of}
-use Rattle.words.specs.Words.{query_of, Small, word_atom, LowAtom}
+use Rattle.words.specs.Words.{query_of, Small, word_term, word_atom, LowAtom}
 use Rattle.words.specs.declared.QueryWords.{QueryWords}
 use Rattle.query_variables.specs.FreshVariable.{fresh_low}
-use Rattle.query_rule.specs.declared.AtomFound.{AtomFound}
 
--- the atom that was found, if one was
-abbrev pub atom_found : AtomFound → Option (Atom Term)
-atom_found r = guard r.found (word_atom r.atom)
+-- the term of a word, and the atom of one, if one was found
+abbrev pub term_found : Option ℕ → Maybe Term
+term_found (Some t) = some (word_term t)
+term_found None = none
+
+abbrev pub atom_found : Option ℕ → Maybe (Atom Term)
+atom_found (Some a) = some (word_atom a)
+atom_found None = none
 
 -- the descriptions of a rule of kind 1
 abbrev pub left_of : ℕ → Basic
