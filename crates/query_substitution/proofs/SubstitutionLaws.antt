@@ -5,7 +5,7 @@ use Prim.Native.Nat.{ℕ, zero, suc, ◌+◌, ◌%◌, ◌≤◌, ◌<◌}
 use native.Mathlib.Decide.{ℕ_discrete, dec_lt}
 use native.Mathlib.Omega.{arith}
 use mathlib.Core.Bool.{Bool, true, false, ◌&&◌}
-use mathlib.Core.Option.{Option, some}
+use mathlib.Core.Option.{Option as Maybe, none, some}
 use mathlib.Core.List.Memᴰ
 use mathlib.Core.List.{List, [], ◌∷◌}
 use lib.Dec.{T, eqb, ltb, ltb→lt, lit<}
@@ -13,13 +13,15 @@ use lib.ListN.{length, get_or, set}
 use lib.Seq.{get_or-set_same, get_or-set_other}
 use borrow.Author.Rules.{rules}
 use borrow.Author.Tests.{eq-eqb, ne_eqb, lt-ltb, le-ltb, le-leb, lt-leb}
-use Rattle.theory.proofs.Laws.Spellings.{same_comm, spellings}
+use Rattle.std.specs.Prelude.{Option, IfSome}
+use Rattle.std.specs.Bool.{then_some}
+use Rattle.theory.proofs.Laws.Spellings.{spellings}
 use Rattle.theory.specs.Lists.{◌∈◌, pick, guard, and_then}
 use Rattle.theory.specs.Syntax.{Term, var, const, concept, role, args, map_atom, subst_term}
 use Rattle.theory.specs.Rewriting.{replace, after, join, bind, unify}
 use Rattle.theory.specs.Laws.Options.{same_test, three_ways, T_and, T_eqb, is_true}
 use Rattle.words.specs.Limits.{word_object_bound, word_term_bound}
-use Rattle.words.specs.Words.{word_term, word_atom, word_kind, word_name, word_first, word_second, LowAtom, first_of}
+use Rattle.words.specs.Words.{word_term, word_atom, word_kind, word_name, word_first, word_second, LowAtom, first_of, second_of}
 use Rattle.words.specs.Laws.LowVariables.{concept_atom, role_atom, first_low, second_low, low_word}
 use Rattle.words.specs.Laws.LowVariables.{object_high, object_term}
 use Rattle.query_substitution.specs.Substitutions.{SmallTerm, SmallTargets, subst_of, unifier_of}
@@ -90,13 +92,13 @@ each_stored P (x ∷ xs) zero w h p (suc k) = h (suc k)
 each_stored P (x ∷ xs) (suc i) w h p zero = h zero
 each_stored P (x ∷ xs) (suc i) w h p (suc k) = each_stored P xs i w (λ k. h (suc k)) p k
 
-module _ (l : List ℕ) (b : Bool) (i w : ℕ) where
+module _ (l : List ℕ) (i w : ℕ) where
   -- the replacement before the word was stored, and after
   abbrev old : Substitution
-  old = record { to = l; unified = b }
+  old = record { to = l }
 
   abbrev new : Substitution
-  new = record { to = set l i w; unified = b }
+  new = record { to = set l i w }
 
   pub targets_stored : SmallTargets old → SmallTerm w → SmallTargets new
   targets_stored h p = each_stored SmallTerm l i w h p
@@ -133,26 +135,26 @@ each_below [] t k = lit< tt
 each_below (w ∷ ws) t zero = ltb→lt w 32 ((T_and (ltb w 32) (below32 ws)).0 t).0
 each_below (w ∷ ws) t (suc k) = each_below ws ((T_and (ltb w 32) (below32 ws)).0 t).1 k
 
-pub targets_below : (l : List ℕ) (b : Bool) → T (below32 l) → SmallTargets (record { to = l; unified = b })
-targets_below l b t k = small_variable (get_or l k 0) (each_below l t k)
+pub targets_below : (l : List ℕ) → T (below32 l) → SmallTargets (record { to = l })
+targets_below l t k = small_variable (get_or l k 0) (each_below l t k)
 
 -- the replacement that changes nothing
-module _ (l : List ℕ) (b : Bool) (i : ℕ) (g : ℕ → Term) (e : subst_of (record { to = l; unified = b }) ≡ up_to i var g) where
-  pub variable_stored : length l ≡ 32 → i < 32 → subst_of (record { to = set l i i; unified = b }) ≡ up_to (i + 1) var g
-  variable_stored n h = stored l b i i var g n h e (low_word i h)
+module _ (l : List ℕ) (i : ℕ) (g : ℕ → Term) (e : subst_of (record { to = l }) ≡ up_to i var g) where
+  pub variable_stored : length l ≡ 32 → i < 32 → subst_of (record { to = set l i i }) ≡ up_to (i + 1) var g
+  variable_stored n h = stored l i i var g n h e (low_word i h)
 
-  pub identity_done : 32 ≤ i → subst_of (record { to = l; unified = b }) ≡ var
-  identity_done h = done (record { to = l; unified = b }) i var g e h (λ u m. refl)
+  pub identity_done : 32 ≤ i → subst_of (record { to = l }) ≡ var
+  identity_done h = done (record { to = l }) i var g e h (λ u m. refl)
 
 -- one variable replaced at all places
 module _ (s s₀ : Substitution) (v t i : ℕ) (e : subst_of s ≡ up_to i (after (subst_of s₀) v (word_term t)) (subst_of s₀)) where
   pub after_stored : (w : ℕ) → length s.to ≡ 32 → i < 32
       → word_term w ≡ subst_term (replace v (word_term t)) (word_term (get_or s.to i 0))
-      → subst_of (record { to = set s.to i w; unified = s.unified }) ≡ up_to (i + 1) (after (subst_of s₀) v (word_term t)) (subst_of s₀)
+      → subst_of (record { to = set s.to i w }) ≡ up_to (i + 1) (after (subst_of s₀) v (word_term t)) (subst_of s₀)
   unfolding after up_to
   after_stored w n h d =
       let before : word_term (get_or s.to i 0) ≡ subst_of s₀ i = sym (place s i h) ∙ ap (λ σ. σ i) e ∙ simp (le-ltb i i (omega arith)) in
-      stored s.to s.unified i w (after (subst_of s₀) v (word_term t)) (subst_of s₀) n h e
+      stored s.to i w (after (subst_of s₀) v (word_term t)) (subst_of s₀) n h e
       (d ∙ ap (subst_term (replace v (word_term t))) before)
 
   pub after_done : v < 32 → 32 ≤ i → subst_of s ≡ after (subst_of s₀) v (word_term t)
@@ -163,45 +165,43 @@ module _ (s s₀ : Substitution) (v t i : ℕ) (e : subst_of s ≡ up_to i (afte
 
 -- ---- two terms made equal
 
--- a replacement that did not fail
-found : (r : Substitution) → r.unified ≡ true → unifier_of r ≡ some (subst_of r)
-unfolding unifier_of
-found r y = simp y
-
-module _ (σ : Substitution) (s t : ℕ) (r : Substitution) (y : σ.unified ≡ true) (k : r.unified ≡ σ.unified) where
-  -- one variable was replaced, as the definition says
-  replaced : (v : ℕ) (x : Term) → subst_of r ≡ after (subst_of σ) v x
-      → some (after (subst_of σ) v x) ≡ join (subst_of σ) (word_term s) (word_term t)
-      → unifier_of r ≡ join (subst_of σ) (word_term s) (word_term t)
-  replaced v x e d = found r (k ∙ y) ∙ ap some e ∙ d
-
+module _ (σ : Substitution) (s t : ℕ) (r : Substitution) where
   pub higher_first : s < 32 → t < s → subst_of r ≡ after (subst_of σ) s (word_term t)
-      → unifier_of r ≡ join (subst_of σ) (word_term s) (word_term t)
+      → some (subst_of r) ≡ join (subst_of σ) (word_term s) (word_term t)
   unfolding join
-  higher_first h l e = replaced s (word_term t) e (sym (simp (low_word s h, low_word t (omega arith), lt-leb s t l)))
+  higher_first h l e = ap some e ∙ sym (simp (low_word s h, low_word t (omega arith), lt-leb s t l))
 
   pub higher_second : s < 32 → t < 32 → s ≤ t → subst_of r ≡ after (subst_of σ) t (word_term s)
-      → unifier_of r ≡ join (subst_of σ) (word_term s) (word_term t)
+      → some (subst_of r) ≡ join (subst_of σ) (word_term s) (word_term t)
   unfolding join
-  higher_second h l m e = replaced t (word_term s) e (sym (simp (low_word s h, low_word t l, le-leb s t m)))
+  higher_second h l m e = ap some e ∙ sym (simp (low_word s h, low_word t l, le-leb s t m))
 
   pub object_first : SmallTerm s → 32 ≤ s → t < 32 → subst_of r ≡ after (subst_of σ) t (word_term s)
-      → unifier_of r ≡ join (subst_of σ) (word_term s) (word_term t)
+      → some (subst_of r) ≡ join (subst_of σ) (word_term s) (word_term t)
   unfolding join
-  object_first m h l e = replaced t (word_term s) e (sym (simp (object_term s m.low h, low_word t l)))
+  object_first m h l e = ap some e ∙ sym (simp (object_term s m.low h, low_word t l))
 
   pub object_second : SmallTerm t → s < 32 → 32 ≤ t → subst_of r ≡ after (subst_of σ) s (word_term t)
-      → unifier_of r ≡ join (subst_of σ) (word_term s) (word_term t)
+      → some (subst_of r) ≡ join (subst_of σ) (word_term s) (word_term t)
   unfolding join
-  object_second m h l e = replaced s (word_term t) e (sym (simp (low_word s h, object_term t m.low l)))
+  object_second m h l e = ap some e ∙ sym (simp (low_word s h, object_term t m.low l))
 
-pub two_objects : (σ : Substitution) (s t : ℕ) (b : Bool) → SmallTerm s → SmallTerm t → 32 ≤ s → 32 ≤ t → b ≡ eqb s t
-    → unifier_of (record { to = σ.to; unified = b }) ≡ join (subst_of σ) (word_term s) (word_term t)
-unfolding unifier_of subst_of join
-two_objects σ s t b m n h l e =
+-- what is found where a test passes
+unifier_where : (b : Bool) (σ : Substitution) → unifier_of (then_some b σ) ≡ guard b (subst_of σ)
+unifier_where true σ = refl
+unifier_where false σ = refl
+
+pub small_where : (b : Bool) (σ : Substitution) (r : Option Substitution) → SmallTargets σ → r ≡ then_some b σ → IfSome r SmallTargets
+small_where b σ r h e =
+    subst (λ o. IfSome o SmallTargets) (sym e) (elim b as (λ c. IfSome (then_some c σ) SmallTargets) [ true ↦ h | false ↦ tt ])
+
+pub two_objects : (σ : Substitution) (s t : ℕ) (r : Option Substitution) → SmallTerm s → SmallTerm t → 32 ≤ s → 32 ≤ t
+    → r ≡ then_some (eqb s t) σ → unifier_of r ≡ join (subst_of σ) (word_term s) (word_term t)
+unfolding subst_of join
+two_objects σ s t r m n h l e =
     let far : word_object_bound ≤ s = object_high s m.low h in
     let far' : word_object_bound ≤ t = object_high t n.low l in
-    ap (λ x. guard x (subst_of σ)) e
+    ap unifier_of e ∙ unifier_where (eqb s t) σ
     ∙ ap (λ x. guard x (subst_of σ))
     (same_test (eqb s t) (eqb (s % word_object_bound) (t % word_object_bound)) (
       λ e. (T_eqb (s % word_object_bound) (t % word_object_bound)).1 (ap (λ w. w % word_object_bound) ((T_eqb s t).0 e)),
@@ -209,17 +209,7 @@ two_objects σ s t b m n h l e =
     ))
     ∙ sym (simp (object_term s m.low h, object_term t n.low l))
 
--- what is bound next, where the replacement did not fail before
-module _ (s r : Substitution) (next : (ℕ → Term) → Option (ℕ → Term)) where
-  pub bound_next : s.unified ≡ true → unifier_of r ≡ next (subst_of s) → unifier_of r ≡ and_then (unifier_of s) next
-  unfolding unifier_of
-  bound_next y h = h ∙ sym (simp y)
-
-  pub failed_before : s.unified ≡ false → unifier_of s ≡ and_then (unifier_of s) next
-  unfolding unifier_of
-  failed_before f = simp f
-
-pub bound : (σ : ℕ → Term) (s t x y : ℕ) (r : Substitution) → word_term x ≡ subst_term σ (word_term s)
+pub bound : (σ : ℕ → Term) (s t x y : ℕ) (r : Option Substitution) → word_term x ≡ subst_term σ (word_term s)
     → word_term y ≡ subst_term σ (word_term t)
     → unifier_of r ≡ join σ (word_term x) (word_term y) → unifier_of r ≡ bind σ (word_term s) (word_term t)
 unfolding bind
@@ -258,70 +248,63 @@ small_role r n x y s t h v m =
 
 -- ---- two atoms made equal
 
--- one kind, one number
-abbrev one_predicate : ℕ → ℕ → Bool
-one_predicate a b = eqb (word_kind a) (word_kind b) && eqb (word_name a) (word_name b)
+-- the kinds and the numbers of the atoms, as they were read
+module _ (a b k l : ℕ) (ka : k ≡ word_kind a) (lb : l ≡ word_kind b) where
+  pub kinds_differ : (k ≡ l → ⊥) → none ≡ unify (word_atom a) (word_atom b)
+  unfolding unify
+  kinds_differ d =
+      elim (ℕ_discrete (word_kind a) 0) [
+        | yes c ↦ sym (simp (concept_atom a c, role_atom b (λ z. d (ka ∙ c ∙ sym z ∙ sym lb))))
+        | no c ↦ sym (simp (role_atom a c, concept_atom b (omega arith)))
+      ]
 
-pub predicates_exchanged : (p : Bool) (a b : ℕ) → p ≡ one_predicate b a → p ≡ one_predicate a b
-predicates_exchanged p a b e =
-    e ∙ ap₂ ◌&&◌ (same_comm eqb T_eqb (word_kind b) (word_kind a)) (same_comm eqb T_eqb (word_name b) (word_name a))
+  module _ (e : k ≡ l) where
+    pub small_second_other : (f : ℕ) → LowAtom b → (k ≡ 0 → ⊥) → f ≡ word_second b → f < word_term_bound → SmallTerm f
+    small_second_other f h = small_second b f h k (e ∙ lb)
 
-module _ (a b : ℕ) where
-  pub kinds_decide : (k l n m : ℕ) → k ≡ word_kind a → l ≡ word_kind b → k ≡ l → n ≡ word_name a → m ≡ word_name b
-      → eqb n m ≡ one_predicate a b
-  kinds_decide k l n m ka lb e na mb = simp (na, mb, eq-eqb (word_kind a) (word_kind b) (sym ka ∙ e ∙ lb))
-
-  pub kinds_differ : (k l : ℕ) → k ≡ word_kind a → l ≡ word_kind b → (k ≡ l → ⊥) → false ≡ one_predicate a b
-  kinds_differ k l ka lb e = sym (simp (ne_eqb (word_kind a) (word_kind b) (λ z. e (ka ∙ z ∙ sym lb))))
-
-  module _ (p : Bool) (pe : p ≡ one_predicate a b) where
-    both : p ≡ true → T (eqb (word_kind a) (word_kind b)) × T (eqb (word_name a) (word_name b))
-    both e = (T_and (eqb (word_kind a) (word_kind b)) (eqb (word_name a) (word_name b))).0 (subst T (sym (sym pe ∙ e)) tt)
-
-    one_kind : p ≡ true → word_kind a ≡ word_kind b
-    one_kind e = (T_eqb (word_kind a) (word_kind b)).0 (both e).0
-
-    one_number : p ≡ true → eqb (word_name a) (word_name b) ≡ true
-    one_number e = is_true (eqb (word_name a) (word_name b)) (both e).1
-
-    pub small_second_other : (k f : ℕ) → LowAtom b → p ≡ true → k ≡ word_kind a → (k ≡ 0 → ⊥) → f ≡ word_second b → f < word_term_bound
-        → SmallTerm f
-    small_second_other k f h e ka z d l = small_second b f h k (ka ∙ one_kind e) z d l
-
-    numbers_differ : p ≡ false → word_kind a ≡ word_kind b → eqb (word_name a) (word_name b) ≡ false
-    numbers_differ e d = ap (λ x. x && eqb (word_name a) (word_name b)) (sym (eq-eqb (word_kind a) (word_kind b) d)) ∙ sym pe ∙ e
-
-    pub no_unifier : (l : List ℕ) → p ≡ false → unifier_of (record { to = l; unified = false }) ≡ unify (word_atom a) (word_atom b)
-    unfolding unifier_of unify
-    no_unifier l e =
-        elim (ℕ_discrete (word_kind a) 0) [
-          | yes c ↦ elim (ℕ_discrete (word_kind b) 0) [
-            | yes d ↦ sym (simp (concept_atom a c, concept_atom b d, numbers_differ e (c ∙ sym d)))
-            | no d ↦ sym (simp (concept_atom a c, role_atom b d))
-          ]
-          | no c ↦ elim (ℕ_discrete (word_kind b) 0) [
-            | yes d ↦ sym (simp (role_atom a c, concept_atom b d))
-            | no d ↦ sym (simp (role_atom a c, role_atom b d, numbers_differ e (omega arith)))
-          ]
-        ]
-
-    module _ (start r : Substitution) (k f g : ℕ) (e : p ≡ true) (i : subst_of start ≡ var) (y : start.unified ≡ true)
-        (ka : k ≡ word_kind a) (fa : f ≡ word_first a) (gb : g ≡ word_first b)
-        (h : unifier_of r ≡ and_then (unifier_of start) (λ σ. bind σ (word_term f) (word_term g))) where
-      first_bound : unifier_of r ≡ bind var (first_of a) (first_of b)
-      first_bound = h ∙ ap (λ o. and_then o (λ σ. bind σ (word_term f) (word_term g))) (found start y) ∙ simp (i, fa, gb)
-
-      pub concepts_unified : k ≡ 0 → unifier_of r ≡ unify (word_atom a) (word_atom b)
+    module _ (n m : ℕ) (na : n ≡ word_name a) (mb : m ≡ word_name b) where
+      pub numbers_differ : (n ≡ m → ⊥) → none ≡ unify (word_atom a) (word_atom b)
       unfolding unify
-      concepts_unified z =
-          first_bound ∙ sym (simp (concept_atom a (sym ka ∙ z), concept_atom b (sym (one_kind e) ∙ sym ka ∙ z), one_number e))
+      numbers_differ d =
+          let differ : eqb (word_name a) (word_name b) ≡ false = ne_eqb (word_name a) (word_name b) (λ z. d (na ∙ z ∙ sym mb)) in
+          elim (ℕ_discrete (word_kind a) 0) [
+            | yes c ↦ sym (simp (concept_atom a c, concept_atom b (sym lb ∙ sym e ∙ ka ∙ c), differ))
+            | no c ↦ sym (simp (role_atom a c, role_atom b (λ z. c (sym ka ∙ e ∙ lb ∙ z)), differ))
+          ]
 
-      pub roles_unified : (f' g' : ℕ) (r' : Substitution) → (k ≡ 0 → ⊥) → f' ≡ word_second a → g' ≡ word_second b
-          → unifier_of r' ≡ and_then (unifier_of r) (λ σ. bind σ (word_term f') (word_term g'))
-          → unifier_of r' ≡ unify (word_atom a) (word_atom b)
-      unfolding unify
-      roles_unified f' g' r' z fa' gb' h' =
-          h' ∙ sym (simp (role_atom a (λ y. z (ka ∙ y)), role_atom b (λ y. z (ka ∙ one_kind e ∙ y)), one_number e, first_bound, fa', gb'))
+      -- the first terms bound, from the replacement that changes nothing on
+      module _ (same : n ≡ m) (start : Substitution) (i : subst_of start ≡ var) (f g : ℕ) (fa : f ≡ word_first a) (gb : g ≡ word_first b)
+        where
+        one_number : eqb (word_name a) (word_name b) ≡ true
+        one_number = eq-eqb (word_name a) (word_name b) (sym na ∙ same ∙ mb)
+
+        on_concepts : word_kind a ≡ 0 → bind (subst_of start) (word_term f) (word_term g) ≡ unify (word_atom a) (word_atom b)
+        unfolding unify
+        on_concepts c =
+            simp (i, fa, gb) (sym (simp (concept_atom a c, concept_atom b (sym lb ∙ sym e ∙ ka ∙ c), one_number)))
+
+        on_roles : (word_kind a ≡ 0 → ⊥)
+            → and_then (bind (subst_of start) (word_term f) (word_term g)) (λ σ. bind σ (second_of a) (second_of b))
+            ≡ unify (word_atom a) (word_atom b)
+        unfolding unify
+        on_roles c =
+            simp (i, fa, gb) (sym (simp (role_atom a c, role_atom b (λ z. c (sym ka ∙ e ∙ lb ∙ z)), one_number)))
+
+        pub firsts_apart : none ≡ bind (subst_of start) (word_term f) (word_term g) → none ≡ unify (word_atom a) (word_atom b)
+        firsts_apart h =
+            elim (ℕ_discrete (word_kind a) 0) [
+              | yes c ↦ h ∙ on_concepts c
+              | no c ↦ ap (λ o. and_then o (λ σ. bind σ (second_of a) (second_of b))) h ∙ on_roles c
+            ]
+
+        module _ (s : Substitution) (h : some (subst_of s) ≡ bind (subst_of start) (word_term f) (word_term g)) where
+          pub concepts_unified : k ≡ 0 → some (subst_of s) ≡ unify (word_atom a) (word_atom b)
+          concepts_unified z = h ∙ on_concepts (sym ka ∙ z)
+
+          pub roles_unified : (f' g' : ℕ) (r : Option Substitution) → (k ≡ 0 → ⊥) → f' ≡ word_second a → g' ≡ word_second b
+              → unifier_of r ≡ bind (subst_of s) (word_term f') (word_term g') → unifier_of r ≡ unify (word_atom a) (word_atom b)
+          roles_unified f' g' r z fa' gb' h' =
+              h' ∙ simp (fa', gb') (ap (λ o. and_then o (λ σ. bind σ (second_of a) (second_of b))) h ∙ on_roles (λ y. z (ka ∙ y)))
 
 pub ruleset term_laws = (rules, spellings, replaced_there, kept_elsewhere, small_place, applied, object_applied)
 
@@ -333,10 +316,16 @@ pub ruleset after_laws = (place_laws, after_stored, after_done)
 
 pub ruleset object_laws = (object_first, object_second, two_objects)
 
-pub ruleset join_laws = (rules, spellings, higher_first, higher_second, object_laws, bound_next, failed_before, bound)
+pub ruleset join_laws = (rules, spellings, higher_first, higher_second, object_laws, small_where, bound)
 
 pub ruleset atom_laws = (rules, spellings, small_first, small_second, concept_applied, role_applied, small_concept, small_role)
 
-pub ruleset predicate_laws = (predicates_exchanged, kinds_decide, kinds_differ)
-
-pub ruleset unify_laws = (atom_laws, predicate_laws, small_second_other, no_unifier, concepts_unified, roles_unified)
+pub ruleset unify_laws = (
+  atom_laws,
+  kinds_differ,
+  numbers_differ,
+  small_second_other,
+  firsts_apart,
+  concepts_unified,
+  roles_unified,
+)

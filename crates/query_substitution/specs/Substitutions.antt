@@ -1,7 +1,7 @@
 -- What a replacement of variables in words holds. 01: "the most general such replacement is made in atoms and answer terms alike".
-use Rattle.std.specs.Prelude.{ℕ, ◌<◌, ltb, get_or}
-use Rattle.std.proofs.Math.Option.{Option}
-use Rattle.theory.specs.Lists.{pick, guard}
+use Rattle.std.specs.Prelude.{ℕ, ◌<◌, ltb, get_or, Option, Some, None}
+use Rattle.std.proofs.Math.Option.{Option as Maybe, none, some}
+use Rattle.theory.specs.Lists.{pick}
 use Rattle.theory.specs.Syntax.{Term, var}
 use Rattle.words.specs.Records.{term_of}
 use Rattle.words.specs.Limits.{word_term_bound}
@@ -23,6 +23,6 @@ abbrev pub SmallTargets : Substitution → Type 0
 SmallTargets s = (k : ℕ) → SmallTerm (get_or s.to k 0)
 
 -- the replacement that makes the terms equal that were to be, if they could be
-unfoldable pub unifier_of : Substitution → Option (ℕ → Term)
-unfolding subst_of
-unifier_of s = guard s.unified (subst_of s)
+abbrev pub unifier_of : Option Substitution → Maybe (ℕ → Term)
+unifier_of (Some s) = some (subst_of s)
+unifier_of None = none

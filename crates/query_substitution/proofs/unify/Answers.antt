@@ -1,38 +1,23 @@
 use Rattle.query_substitution.proofs.SubstitutionLaws.{unify_laws}
 use Rattle.query_substitution.proofs.unify.Goals as goal
 
-pub identity-s-requires : goal.identity-s-requires
-identity-s-requires c = search unify_laws
-
-pub one_predicate-requires : goal.one_predicate-requires
-one_predicate-requires c = search unify_laws
-
-pub first_term-requires : goal.first_term-requires
-first_term-requires c = search unify_laws
-
-pub first_term-requires-then-one_predicate : goal.first_term-requires-then-one_predicate
-first_term-requires-then-one_predicate c = search unify_laws
-
-pub bind-s-requires : goal.bind-s-requires
-bind-s-requires c = search unify_laws
-
-pub kind_of-requires : goal.kind_of-requires
-kind_of-requires c = search unify_laws
-
-pub returns-then-kind_of-eq0 : goal.returns-then-kind_of-eq0
-returns-then-kind_of-eq0 c = search unify_laws
-
-pub second_term-requires : goal.second_term-requires
-second_term-requires c = search unify_laws
-
-pub second_term-requires-then-one_predicate : goal.second_term-requires-then-one_predicate
-second_term-requires-then-one_predicate c = search unify_laws
-
 pub bind-requires : goal.bind-requires
 bind-requires c = search unify_laws
 
-pub returns-then-one_predicate : goal.returns-then-one_predicate
-returns-then-one_predicate c = search unify_laws
+pub bind-requires-2 : goal.bind-requires-2
+bind-requires-2 c = search unify_laws
 
-pub returns : goal.returns
-returns c = search unify_laws
+pub returns-then-kind_of-clause-unifies : goal.returns-then-kind_of-clause-unifies
+returns-then-kind_of-clause-unifies c = search unify_laws
+
+pub returns-then-number_of-clause-unifies : goal.returns-then-number_of-clause-unifies
+returns-then-number_of-clause-unifies c = search unify_laws
+
+pub returns-in_err-s-clause-unifies : goal.returns-in_err-s-clause-unifies
+returns-in_err-s-clause-unifies c = search unify_laws
+
+pub returns-then-kind_of-eq0-clause-unifies : goal.returns-then-kind_of-eq0-clause-unifies
+returns-then-kind_of-eq0-clause-unifies c = search unify_laws
+
+pub returns-clause-unifies : goal.returns-clause-unifies
+returns-clause-unifies c = search unify_laws

@@ -1,6 +1,4 @@
-use mathlib.Core.Path.{◌≡◌}
-use Prim.Native.Nat.{◌-◌, ◌≤◌}
-use lib.ListN.{length}
+use Rattle.std.proofs.Common.{◌≡◌, length}
 use Rattle.theory.specs.Rewriting.{after}
 use Rattle.words.specs.Words.{word_term}
 use Rattle.query_substitution.specs.Substitutions.{SmallTargets, subst_of}
@@ -9,8 +7,5 @@ use Rattle.query_substitution.proofs.Substitution.after.Given as goal
 
 abbrev pub invariant-loop-i : goal.invariant-loop-i
 invariant-loop-i l =
-    (l.i ≤ 32) × (length l.self.to ≡ 32) × (l.self.unified ≡ l.initial.self.unified) × SmallTargets l.self
+    (length l.self.to ≡ 32) × SmallTargets l.self
     × (subst_of l.self ≡ up_to l.i (after (subst_of l.initial.self) l.v (word_term l.t)) (subst_of l.initial.self))
-
-abbrev pub decreases-loop-i : goal.decreases-loop-i
-decreases-loop-i l = 32 - l.i

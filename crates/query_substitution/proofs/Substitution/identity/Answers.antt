@@ -4,20 +4,8 @@ use Rattle.query_substitution.proofs.Substitution.identity.Goals as goal
 pub loop-i-init : goal.loop-i-init
 loop-i-init c = search identity_laws
 
-pub offset_bounds-to-i : goal.offset_bounds-to-i
-offset_bounds-to-i c = search identity_laws
-
-pub bounds-to-i : goal.bounds-to-i
-bounds-to-i c = search identity_laws
-
-pub overflow_add-i : goal.overflow_add-i
-overflow_add-i c = search identity_laws
-
-pub loop-i-smaller : goal.loop-i-smaller
-loop-i-smaller c = search identity_laws
-
 pub loop-i-preserved : goal.loop-i-preserved
-loop-i-preserved c = (search identity_laws, search identity_laws, search identity_laws, search identity_laws)
+loop-i-preserved c = (search identity_laws, search identity_laws, search identity_laws)
 
 pub returns : goal.returns
 returns c = search identity_laws
