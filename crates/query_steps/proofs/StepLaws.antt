@@ -28,13 +28,10 @@ use Rattle.words.specs.Limits.{word_term_bound}
 use Rattle.words.specs.Laws.Scans.{query_scans}
 use Rattle.words.specs.declared.QueryWords.{QueryWords}
 use Rattle.words.specs.Laws.LowVariables.{answer_low, atom_low}
-use Rattle.query_substitution.specs.Substitutions.{SmallTerm, SmallTargets, subst_of, unifier_of}
+use Rattle.query_substitution.specs.Substitutions.{SmallTerm, SmallTargets, subst_of}
 use Rattle.query_substitution.specs.declared.Substitution.{Substitution}
 use Rattle.query_substitution.proofs.SubstitutionLaws.{place, each_stored, below32, each_below}
-use Rattle.query_rule.specs.RuleOnAtom.{atom_found}
-use Rattle.query_rule.specs.declared.AtomFound.{AtomFound}
-use Rattle.query_steps.specs.StepResults.{once_each, with_atom, query_found}
-use Rattle.query_steps.specs.declared.steps.QueryFound.{QueryFound}
+use Rattle.query_steps.specs.StepResults.{once_each, with_atom}
 
 -- ---- on lists
 
@@ -266,13 +263,6 @@ module _ (s : Substitution) (q : QueryWords) (answers atoms : List ℕ)
 
 -- ---- steps
 
-pub nothing_found : (q : QueryWords) → query_found (record { found = false; query = q }) ≡ none
-unfolding query_found
-nothing_found q = refl
-
-pub still_small : (q p : QueryWords) → Small q → p ≡ q → Small p
-still_small q p s e = subst Small (sym e) s
-
 module _ (q : QueryWords) (i : ℕ) where
   pub atom_at_lem : length q.atoms ≡ 8 → Small q → i < q.size → get_elem? (query_of q).atoms i ≡ some (word_atom (get_or q.atoms i 0))
   unfolding query_of
@@ -286,61 +276,53 @@ module _ (q : QueryWords) (i : ℕ) where
   made_low b l s h f = f (atom_low q i s l h)
 
 -- a rule on an atom
-module _ (q : QueryWords) (i rule : ℕ) where
-  pub rule_past : (f : QueryFound) → query_found f ≡ none → q.size ≤ i → (rules : List Rule) (k : ℕ) → At rules k (rule_in rule)
-      → query_found f ≡ rule_step rules (query_of q) i k
+module _ (q : QueryWords) (i rule : ℕ) (rules : List Rule) (k : ℕ) (at : At rules k (rule_in rule)) where
+  pub rule_past : q.size ≤ i → none ≡ rule_step rules (query_of q) i k
   unfolding rule_step
-  rule_past f e h rules k at = e ∙ sym (simp (at, atom_past q i h))
+  rule_past h = sym (simp (at, atom_past q i h))
 
-  module _ (m : AtomFound) (l : length q.atoms ≡ 8) (s : Small q) (h : i < q.size)
-      (e : atom_found m ≡ rewrite_atom (query_of q) (rule_in rule) (word_atom (get_or q.atoms i 0))) where
-    pub rule_unfit : (f : QueryFound) → query_found f ≡ none → m.found ≡ false → (rules : List Rule) (k : ℕ) → At rules k (rule_in rule)
-        → query_found f ≡ rule_step rules (query_of q) i k
+  module _ (l : length q.atoms ≡ 8) (s : Small q) (h : i < q.size) where
+    pub rule_unfit : none ≡ rewrite_atom (query_of q) (rule_in rule) (word_atom (get_or q.atoms i 0))
+        → none ≡ rule_step rules (query_of q) i k
     unfolding rule_step
-    rule_unfit f d n rules k at =
-        let unfit : rewrite_atom (query_of q) (rule_in rule) (word_atom (get_or q.atoms i 0)) ≡ none = sym e ∙ simp n in
-        d ∙ sym (simp (at, atom_at_lem q i l s h, unfit))
+    rule_unfit e = sym (simp (at, atom_at_lem q i l s h, sym e))
 
-    pub rule_fits : (r : QueryWords) → m.found ≡ true → query_of r ≡ change_atom (query_of q) i (word_atom m.atom)
-        → (rules : List Rule) (k : ℕ) → At rules k (rule_in rule)
-        → query_found (record { found = true; query = r }) ≡ rule_step rules (query_of q) i k
-    unfolding rule_step query_found
-    rule_fits r y d rules k at =
-        let fits : rewrite_atom (query_of q) (rule_in rule) (word_atom (get_or q.atoms i 0)) ≡ some (word_atom m.atom) = sym e ∙ simp y in
-        ap some d ∙ sym (simp (at, atom_at_lem q i l s h, fits))
+    pub rule_fits : (r : QueryWords) (w : ℕ)
+        → some (word_atom w) ≡ rewrite_atom (query_of q) (rule_in rule) (word_atom (get_or q.atoms i 0))
+        → query_of r ≡ change_atom (query_of q) i (word_atom w) → some (query_of r) ≡ rule_step rules (query_of q) i k
+    unfolding rule_step
+    rule_fits r w e d = ap some d ∙ sym (simp (at, atom_at_lem q i l s h, sym e))
 
 -- a merge of two atoms
 module _ (q : QueryWords) (i j : ℕ) where
-  pub merge_order : (f : QueryFound) → query_found f ≡ none → j ≤ i → query_found f ≡ merge_step (query_of q) i j
+  pub merge_order : j ≤ i → none ≡ merge_step (query_of q) i j
   unfolding merge_step
-  merge_order f e h = e ∙ sym (simp (le-ltb i j h))
+  merge_order h = sym (simp (le-ltb i j h))
 
   module _ (l : length q.atoms ≡ 8) (s : Small q) (h : i < j) where
     pub earlier_low : j < q.size → LowAtom (get_or q.atoms i 0)
     earlier_low g = atom_low q i s l (omega arith)
 
-    pub merge_past : (f : QueryFound) → query_found f ≡ none → q.size ≤ j → query_found f ≡ merge_step (query_of q) i j
+    pub merge_past : q.size ≤ j → none ≡ merge_step (query_of q) i j
     unfolding merge_step
-    merge_past f e g =
+    merge_past g =
         elim (dec_lt i q.size) [
-          | yes m ↦ e ∙ sym (simp (lt-ltb i j h, atom_at_lem q i l s m, atom_past q j g))
-          | no m ↦ e ∙ sym (simp (lt-ltb i j h, atom_past q i (omega arith)))
+          | yes m ↦ sym (simp (lt-ltb i j h, atom_at_lem q i l s m, atom_past q j g))
+          | no m ↦ sym (simp (lt-ltb i j h, atom_past q i (omega arith)))
         ]
 
-    module _ (u : Substitution) (g : j < q.size)
-        (e : unifier_of u ≡ unify (word_atom (get_or q.atoms i 0)) (word_atom (get_or q.atoms j 0))) where
-      pub merge_unfit : (f : QueryFound) → query_found f ≡ none → u.unified ≡ false → query_found f ≡ merge_step (query_of q) i j
-      unfolding merge_step unifier_of
-      merge_unfit f d n =
-          let unfit : unify (word_atom (get_or q.atoms i 0)) (word_atom (get_or q.atoms j 0)) ≡ none = sym e ∙ simp n in
-          d ∙ sym (simp (lt-ltb i j h, atom_at_lem q i l s (omega arith), atom_at_lem q j l s g, unfit))
+    module _ (g : j < q.size) where
+      pub merge_unfit : none ≡ unify (word_atom (get_or q.atoms i 0)) (word_atom (get_or q.atoms j 0))
+          → none ≡ merge_step (query_of q) i j
+      unfolding merge_step
+      merge_unfit e = sym (simp (lt-ltb i j h, atom_at_lem q i l s (omega arith), atom_at_lem q j l s g, sym e))
 
-      pub merge_fits : (r : QueryWords) → u.unified ≡ true → query_of r ≡ substitute (subst_of u) (query_of q)
-          → query_found (record { found = true; query = r }) ≡ merge_step (query_of q) i j
-      unfolding merge_step unifier_of query_found
-      merge_fits r y d =
-          let fits : unify (word_atom (get_or q.atoms i 0)) (word_atom (get_or q.atoms j 0)) ≡ some (subst_of u) = sym e ∙ simp y in
-          ap some d ∙ sym (simp (lt-ltb i j h, atom_at_lem q i l s (omega arith), atom_at_lem q j l s g, fits))
+      pub merge_fits : (u : Substitution) (r : QueryWords)
+          → some (subst_of u) ≡ unify (word_atom (get_or q.atoms i 0)) (word_atom (get_or q.atoms j 0))
+          → query_of r ≡ substitute (subst_of u) (query_of q) → some (query_of r) ≡ merge_step (query_of q) i j
+      unfolding merge_step
+      merge_fits u r e d =
+          ap some d ∙ sym (simp (lt-ltb i j h, atom_at_lem q i l s (omega arith), atom_at_lem q j l s g, sym e))
 
 pub ruleset once_laws = (
   rules,
@@ -373,6 +355,6 @@ pub ruleset fill_laws = (
 
 pub ruleset sent_laws = (rules, spellings, sent_small, sent_once)
 
-pub ruleset rule_laws = (rules, spellings, nothing_found, still_small, made_low, rule_past, rule_unfit, rule_fits)
+pub ruleset rule_laws = (rules, spellings, made_low, rule_past, rule_unfit, rule_fits)
 
-pub ruleset merge_laws = (rules, spellings, still_small, atom_low, earlier_low, merge_order, merge_past, merge_unfit, merge_fits)
+pub ruleset merge_laws = (rules, spellings, atom_low, earlier_low, merge_order, merge_past, merge_unfit, merge_fits)

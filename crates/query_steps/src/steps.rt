@@ -1,6 +1,5 @@
 // The steps on a query in words: a rule on an atom, and a merge of two atoms.
-ghost use Rattle.std.specs.Prelude.{◌≡◌, List, map, ℕ, ◌+◌, ◌≤◌, ◌<◌, take};
-ghost use Rattle.std.proofs.Math.Option.{none};
+ghost use Rattle.std.specs.Prelude.{◌≡◌, List, map, ℕ, ◌+◌, ◌≤◌, ◌<◌, take, IfSome};
 ghost use Rattle.theory.specs.Lists.{At, any};
 ghost use Rattle.theory.specs.Syntax.{Rule, map_atom, subst_term, same_atom};
 ghost use Rattle.theory.specs.Rewriting.{substitute as substituted, change_atom, rule_step, merge_step};
@@ -15,26 +14,15 @@ use query_substitution::{Substitution, unify};
 use words::limits::{MOST_ATOMS, MOST_TERMS};
 use words::{QueryWords, same_atom};
 
-// The query that a step leads to, where it applies; else the query before the step.
-#[derive(Clone, Copy)]
-pub struct QueryFound {
-    pub found: bool,
-    pub query: QueryWords,
-}
-
 // Whether the query has the atom.
 fn has_atom(q: QueryWords, a: u64) -> bool
     requires { q.size ≤ most_atoms }
     ensures { result ≡ any (same_atom (word_atom a)) (query_of q).atoms }
 {
-    let atoms = q.atoms;
-    let n = q.size;
-    let mut i: usize = 0;
-    while i < n {
-        if same_atom(a, atoms[i]) {
+    for i in 0..q.size {
+        if same_atom(a, q.atoms[i]) {
             return true;
         }
-        i += 1;
     }
     false
 }
@@ -48,9 +36,8 @@ fn with_atom(mut q: QueryWords, a: u64) -> QueryWords
     if has_atom(q, a) {
         return q;
     }
-    let n = q.size;
-    q.atoms[n] = a;
-    q.size = n + 1;
+    q.atoms[q.size] = a;
+    q.size += 1;
     q
 }
 
@@ -59,14 +46,10 @@ fn keep_once(q: QueryWords) -> QueryWords
     requires { Small q }
     ensures { (query_of result ≡ once_each (query_of q)) × Small result }
 {
-    let atoms = q.atoms;
-    let n = q.size;
     let mut kept = q;
     kept.size = 0;
-    let mut i: usize = 0;
-    while i < n {
-        kept = with_atom(kept, atoms[i]);
-        i += 1;
+    for i in 0..q.size {
+        kept = with_atom(kept, q.atoms[i]);
     }
     kept
 }
@@ -85,15 +68,9 @@ fn apply_answers(s: Substitution, q: QueryWords) -> [u64; MOST_TERMS]
     requires { SmallTargets s × Small q }
     ensures { (map word_term (take q.terms result) ≡ map (subst_term (subst_of s)) (query_of q).answers) × TermWords result }
 {
-    let answers = q.answers;
-    let n = q.terms;
     let mut words = [0u64; MOST_TERMS];
-    let mut i: usize = 0;
-    while i < n {
-        let t = answers[i];
-        let sent = s.apply(t);
-        words[i] = sent;
-        i += 1;
+    for i in 0..q.terms {
+        words[i] = s.apply(q.answers[i]);
     }
     words
 }
@@ -103,13 +80,9 @@ fn apply_atoms(s: Substitution, q: QueryWords) -> [u64; MOST_ATOMS]
     requires { SmallTargets s × Small q }
     ensures { map word_atom (take q.size result) ≡ map (map_atom (subst_term (subst_of s))) (query_of q).atoms }
 {
-    let atoms = q.atoms;
-    let n = q.size;
     let mut words = [0u64; MOST_ATOMS];
-    let mut i: usize = 0;
-    while i < n {
-        words[i] = s.apply_atom(atoms[i]);
-        i += 1;
+    for i in 0..q.size {
+        words[i] = s.apply_atom(q.atoms[i]);
     }
     words
 }
@@ -129,56 +102,31 @@ pub fn substitute(s: Substitution, q: QueryWords) -> QueryWords
     })
 }
 
-// A step that does not apply.
-fn no_step(q: QueryWords) -> QueryFound
-    ensures { (query_found result ≡ none) × (result.query ≡ q) }
-{
-    QueryFound {
-        found: false,
-        query: q,
-    }
-}
-
 // A step of kind 1: the rule on the atom at index i.
-pub fn rule_step(q: QueryWords, i: usize, rule: u64) -> QueryFound
+pub fn rule_step(q: QueryWords, i: usize, rule: u64) -> Option<QueryWords>
     requires { Small q }
-    ensures { ((rules : List Rule) (k : ℕ) → At rules k (rule_in rule) → query_found result ≡ rule_step rules (query_of q) i k)
-        × Small result.query }
+    ensures step { (rules : List Rule) (k : ℕ) → At rules k (rule_in rule) → query_found result ≡ rule_step rules (query_of q) i k }
+    ensures small { IfSome result Small }
 {
-    let atoms = q.atoms;
     if q.size <= i {
-        return no_step(q);
+        return None;
     }
-    let made = rewrite_atom(q, rule, atoms[i]);
-    if made.found {
-        QueryFound {
-            found: true,
-            query: change_atom(q, i, made.atom),
-        }
-    } else {
-        no_step(q)
-    }
+    let made = rewrite_atom(q, rule, q.atoms[i])?;
+    Some(change_atom(q, i, made))
 }
 
 // A step of kind 2: the atom at index i merged with the later one at index j.
-pub fn merge_step(q: QueryWords, i: usize, j: usize) -> QueryFound
+pub fn merge_step(q: QueryWords, i: usize, j: usize) -> Option<QueryWords>
     requires { Small q }
-    ensures { (query_found result ≡ merge_step (query_of q) i j) × Small result.query }
+    ensures step { query_found result ≡ merge_step (query_of q) i j }
+    ensures small { IfSome result Small }
 {
-    let atoms = q.atoms;
     if j <= i {
-        return no_step(q);
+        return None;
     }
     if q.size <= j {
-        return no_step(q);
+        return None;
     }
-    let unifier = unify(atoms[i], atoms[j]);
-    if unifier.unified {
-        QueryFound {
-            found: true,
-            query: substitute(unifier, q),
-        }
-    } else {
-        no_step(q)
-    }
+    let unifier = unify(q.atoms[i], q.atoms[j])?;
+    Some(substitute(unifier, q))
 }

@@ -9,8 +9,5 @@ use Rattle.query_steps.proofs.steps.apply_answers.Given as goal
 
 abbrev pub invariant-loop-i : goal.invariant-loop-i
 invariant-loop-i l =
-    (l.i ≤ l.n) × (length l.words ≡ 4) × TermWords l.words
-    × (map word_term (take l.i l.words) ≡ map (subst_term (subst_of l.s)) (map word_term (take l.i l.answers)))
-
-abbrev pub decreases-loop-i : goal.decreases-loop-i
-decreases-loop-i l = l.n - l.i
+    (length l.words ≡ 4) × TermWords l.words
+    × (map word_term (take l.i l.words) ≡ map (subst_term (subst_of l.s)) (map word_term (take l.i l.q.answers)))

@@ -9,8 +9,5 @@ use Rattle.query_steps.proofs.steps.apply_atoms.Given as goal
 
 abbrev pub invariant-loop-i : goal.invariant-loop-i
 invariant-loop-i l =
-    (l.i ≤ l.n) × (length l.words ≡ 8)
-    × (map word_atom (take l.i l.words) ≡ map (map_atom (subst_term (subst_of l.s))) (map word_atom (take l.i l.atoms)))
-
-abbrev pub decreases-loop-i : goal.decreases-loop-i
-decreases-loop-i l = l.n - l.i
+    (length l.words ≡ 8)
+    × (map word_atom (take l.i l.words) ≡ map (map_atom (subst_term (subst_of l.s))) (map word_atom (take l.i l.q.atoms)))

@@ -1,12 +1,6 @@
 use Rattle.query_steps.proofs.StepLaws.{change_laws}
 use Rattle.query_steps.proofs.steps.change_atom.Goals as goal
 
-pub offset_bounds-q-i : goal.offset_bounds-q-i
-offset_bounds-q-i c = search change_laws
-
-pub bounds-q-i : goal.bounds-q-i
-bounds-q-i c = search change_laws
-
 pub keep_once-requires : goal.keep_once-requires
 keep_once-requires c = search change_laws
 

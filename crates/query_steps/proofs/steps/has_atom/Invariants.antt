@@ -7,8 +7,5 @@ use Rattle.query_steps.proofs.steps.has_atom.Given as goal
 
 abbrev pub invariant-loop-i : goal.invariant-loop-i
 invariant-loop-i l =
-    some_from (test_at (same_atom (word_atom l.a)) word_atom l.atoms) l.i l.n
-    ≡ some_from (test_at (same_atom (word_atom l.a)) word_atom l.atoms) 0 l.n
-
-abbrev pub decreases-loop-i : goal.decreases-loop-i
-decreases-loop-i l = l.n - l.i
+    some_from (test_at (same_atom (word_atom l.a)) word_atom l.q.atoms) l.i l.q.size
+    ≡ some_from (test_at (same_atom (word_atom l.a)) word_atom l.q.atoms) 0 l.q.size

@@ -4,23 +4,8 @@ use Rattle.query_steps.proofs.steps.keep_once.Goals as goal
 pub loop-i-init : goal.loop-i-init
 loop-i-init c = search once_laws
 
-pub offset_bounds-atoms-i : goal.offset_bounds-atoms-i
-offset_bounds-atoms-i c = search once_laws
-
-pub bounds-atoms-i : goal.bounds-atoms-i
-bounds-atoms-i c = search once_laws
-
-pub with_atom-kept-requires : goal.with_atom-kept-requires
-with_atom-kept-requires c = search once_laws
-
-pub overflow_add-i : goal.overflow_add-i
-overflow_add-i c = search once_laws
-
-pub loop-i-smaller : goal.loop-i-smaller
-loop-i-smaller c = search once_laws
-
 pub loop-i-preserved : goal.loop-i-preserved
-loop-i-preserved c = (search once_laws, search once_laws, search once_laws, search once_laws, search once_laws)
+loop-i-preserved c = (search once_laws, search once_laws, search once_laws, search once_laws)
 
 pub returns : goal.returns
 returns c = search once_laws

@@ -7,8 +7,5 @@ use Rattle.query_steps.proofs.steps.keep_once.Given as goal
 
 abbrev pub invariant-loop-i : goal.invariant-loop-i
 invariant-loop-i l =
-    (l.i ≤ l.n) × (l.kept.size ≤ l.i) × (l.kept.terms ≡ l.initial.kept.terms) × (l.kept.answers ≡ l.initial.kept.answers)
+    (l.kept.size ≤ l.i) × (l.kept.terms ≡ l.initial.kept.terms) × (l.kept.answers ≡ l.initial.kept.answers)
     × (query_of l.kept ≡ once_each (query_of (cut l.initial.kept l.i)))
-
-abbrev pub decreases-loop-i : goal.decreases-loop-i
-decreases-loop-i l = l.n - l.i
