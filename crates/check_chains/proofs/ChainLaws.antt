@@ -9,7 +9,7 @@ use lib.ListN.{length, get_or, set, length-set}
 use lib.Seq.{get_or-set_same, get_or-set_other}
 use borrow.Author.Count.{below_more}
 use borrow.Author.Rules.{rules}
-use Rattle.check_chains.specs.Chains.{places, place_of, Last, Chains, Indexed, Cleared}
+use Rattle.check_chains.specs.Chains.{places, place_of, Last, Chains, Cleared}
 
 -- ---- what is stored
 
@@ -101,24 +101,9 @@ module _ (words index : List ℕ) (n j : ℕ) (ch : Chains words j index) (long 
     link = below_more (λ i. Last words i (place_of (get_or words i 0)) (get_or grown (places + i) 0)) j old_link new_link;
   })
 
-pub all_chained : (words index : List ℕ) (n j : ℕ) → Chains words j index → j ≤ n → n ≤ j → Indexed words n index
+pub all_chained : (words index : List ℕ) (n j : ℕ) → Chains words j index → j ≤ n → n ≤ j → Chains words n index
 all_chained words index n j ch h g =
     let e : j ≡ n = omega arith in
-    record { chained = λ long. subst (λ k. Chains words k index) e ch }
+    subst (λ k. Chains words k index) e ch
 
--- ---- what a function reads
-
-pub head_read : (words index : List ℕ) (n wanted h at : ℕ) → Chains words n index → h ≡ place_of wanted → h < places → at ≡ get_or index h 0
-    → Last words n (place_of wanted) at
-head_read words index n wanted h at ch e l g = subst (λ x. Last words n x at) e (subst (Last words n h) (sym g) (ch.head h l))
-
-pub link_read : (words index : List ℕ) (n at r : ℕ) → Chains words n index → 0 < at → at ≤ n → r ≡ get_or index (places + (at - 1)) 0
-    → Last words (at - 1) (place_of (get_or words (at - 1) 0)) r
-link_read words index n at r ch l g e =
-    subst (Last words (at - 1) (place_of (get_or words (at - 1) 0))) (sym e) (ch.link (at - 1) (omega arith))
-
-pub link_within : (words index : List ℕ) (n at : ℕ) → Chains words n index → 1024 ≤ length index → 0 < at → at ≤ n
-    → places + (at - 1) < length index
-link_within words index n at ch l g h = let f = ch.few in omega arith
-
-pub ruleset laws = (rules, place_within, put_is, no_chains, one_more, all_chained, head_read, link_read, link_within)
+pub ruleset laws = (rules, place_within, put_is, no_chains, one_more, all_chained)

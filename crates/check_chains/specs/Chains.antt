@@ -1,7 +1,7 @@
 -- Words chained by their place: which of the first n words of a list stand at a place is found from the last to the first, with no other
 -- looked at. The index has for each place the number after the last word there, and for each word the number after the one before it at
 -- its place; 0 says that there is none.
-use Rattle.std.specs.Prelude.{◌≡◌, ℕ, ◌+◌, ◌-◌, ◌%◌, ◌≤◌, ◌<◌, List, length, get_or}
+use Rattle.std.specs.Prelude.{◌≡◌, ℕ, ◌+◌, ◌-◌, ◌%◌, ◌≤◌, ◌<◌, List, length, get_or, Option, None, Some}
 
 -- how many places there are, and the place of a word
 abbrev pub places : ℕ
@@ -9,6 +9,11 @@ places = 512
 
 abbrev pub place_of : ℕ → ℕ
 place_of word = word % places
+
+-- the number after a word that is found, 0 where none is
+abbrev pub after : Option ℕ → ℕ
+after None = 0
+after (Some j) = j + 1
 
 -- the number after the last of the first n words that stands at place h; 0 where none does
 pub record Last (words : List ℕ) (n h at : ℕ) : Type 0 where
@@ -22,12 +27,9 @@ pub record Chains (words : List ℕ) (n : ℕ) (index : List ℕ) : Type 0 where
   pub head : (h : ℕ) → h < places → Last words n h (get_or index h 0)
   pub link : (j : ℕ) → j < n → Last words j (place_of (get_or words j 0)) (get_or index (places + j) 0)
 
--- a full index is one of the first n words; a shorter one says nothing, and the words are gone through
+-- how many numbers an index has
 abbrev pub index_words : ℕ
 index_words = 1024
-
-pub record Indexed (words : List ℕ) (n : ℕ) (index : List ℕ) : Type 0 where
-  pub chained : index_words ≤ length index → Chains words n index
 
 -- an index of no words
 pub record Cleared (index : List ℕ) : Type 0 where

@@ -1,12 +1,12 @@
 -- Going along a chain: only what stands at its place can pass a test, so that when the chain ends nothing is left that could.
-use Rattle.std.specs.Prelude.{◌≡◌, ℕ, zero, suc, ◌+◌, ◌-◌, ◌≤◌, ◌<◌, Bool, true, false, ◌||◌, List, length, get_or, replicate}
-use Rattle.std.proofs.Common.{sym, ap, ◌∙◌, inl, inr, arith}
+use Rattle.std.specs.Prelude.{◌≡◌, ℕ, zero, suc, ◌+◌, ◌-◌, ◌≤◌, ◌<◌, Bool, true, false, ◌||◌, List, get_or, replicate, Option, None, Some}
+use Rattle.std.proofs.Common.{sym, ap, subst, ◌∙◌, inl, inr, arith}
 use Rattle.std.proofs.Math.Bool.{or-true}
 use Rattle.std.proofs.lemmas.List.{length-replicate, get_or-replicate}
 use Rattle.theory.specs.Lists.{any, numbers}
 use Rattle.theory.specs.Laws.Options.{three_ways}
 use Rattle.theory.specs.Laws.Scans.{some_from, some_begins, some_next, some_past, skip, NoneIn}
-use Rattle.check_chains.specs.Chains.{place_of, Last, Chains, Indexed, Cleared}
+use Rattle.check_chains.specs.Chains.{place_of, after, Last, Cleared}
 
 -- of the first n words only those at place h pass the test
 pub record OnlyAt (p : ℕ → Bool) (words : List ℕ) (h n : ℕ) : Type 0 where
@@ -28,22 +28,27 @@ module _ (p : ℕ → Bool) (words : List ℕ) (h n at : ℕ) where
     none = record { each = λ k g l. only.each k l (last.above k g l) };
   }
 
-  pub walk_on : (next from : ℕ) (b : Bool) → Walked p words h n at → from < at → b ≡ p (at - 1) → b ≡ false
-      → Last words (at - 1) (place_of (get_or words (at - 1) 0)) next → Walked p words h n next
-  walk_on next from b walked more e f last = record {
+-- word j is looked at
+module _ (p : ℕ → Bool) (words : List ℕ) (h n j : ℕ) (walked : Walked p words h n (j + 1)) where
+  pub walk_within : j < n
+  walk_within = let g = walked.low in omega arith
+
+  there_lem : place_of (get_or words j 0) ≡ h
+  there_lem = let e : j + 1 - 1 ≡ j = omega arith in ap (λ i. place_of (get_or words i 0)) (sym e) ∙ walked.here (omega arith)
+
+  -- and does not pass
+  pub walk_on : (next : ℕ) (b : Bool) → b ≡ p j → b ≡ false → Last words j (place_of (get_or words j 0)) next → Walked p words h n next
+  walk_on next b e f last = record {
     only = walked.only;
     low = let l = last.low in let g = walked.low in omega arith;
-    here = λ g. last.here g ∙ walked.here pos;
+    here = λ g. last.here g ∙ there_lem;
     none = record { each = each };
   }
     where
-      pos : 0 < at
-      pos = omega arith
-
       each : (k : ℕ) → next ≤ k → k < n → p k ≡ false
       each k g l =
-          elim (three_ways k (at - 1)) [
-            | inl below ↦ walked.only.each k l (λ there. last.above k g below (there ∙ sym (walked.here pos)))
+          elim (three_ways k j) [
+            | inl below ↦ walked.only.each k l (λ there. last.above k g below (there ∙ sym there_lem))
             | inr (inl d) ↦ ap p d ∙ sym e ∙ f
             | inr (inr above) ↦ walked.none.each k (omega arith) l
           ]
@@ -57,46 +62,45 @@ some_at p n k (suc d) from e l t =
     some_next p from n (omega arith) ∙ ap (λ b. p from || b) (some_at p n k d (from + 1) (omega arith) l t) ∙ or-true (p from)
 
 -- r says whether one from number `from` on passes
-module _ (p : ℕ → Bool) (words : List ℕ) (h n at from : ℕ) (r : Bool) (left : some_from p from n ≡ r) (walked : Walked p words h n at) where
-  pub walk_found : (b : Bool) → from < at → b ≡ p (at - 1) → b ≡ true → true ≡ r
-  walk_found b l e t =
-      let low = walked.low in
-      sym (some_at p n (at - 1) (at - 1 - from) from (omega arith) (omega arith) (sym e ∙ t)) ∙ left
+module _ (p : ℕ → Bool) (words : List ℕ) (h n from : ℕ) (r : Bool) (left : some_from p from n ≡ r) where
+  module _ (j : ℕ) (walked : Walked p words h n (j + 1)) where
+    pub walk_found : (b : Bool) → from ≤ j → b ≡ p j → b ≡ true → true ≡ r
+    walk_found b l e t =
+        let low = walked.low in
+        sym (some_at p n j (j - from) from (omega arith) (omega arith) (sym e ∙ t)) ∙ left
 
-  pub walk_ends : at ≤ from → from ≤ n → false ≡ r
-  walk_ends g l =
+    pub walk_past : j < from → from ≤ n → false ≡ r
+    walk_past g l =
+        sym (skip p n n (n - from) from (omega arith) (omega arith) (λ i k m. walked.none.each i (omega arith) m)
+        ∙ some_past p n n (omega arith)) ∙ left
+
+  pub walk_ends : Walked p words h n 0 → from ≤ n → false ≡ r
+  walk_ends walked l =
       sym (skip p n n (n - from) from (omega arith) (omega arith) (λ i k m. walked.none.each i (omega arith) m)
       ∙ some_past p n n (omega arith)) ∙ left
 
 -- whether one of the first n passes
-module _ (p : ℕ → Bool) (words : List ℕ) (h n at : ℕ) (walked : Walked p words h n at) where
-  pub one_found : (b : Bool) → 0 < at → b ≡ p (at - 1) → b ≡ true → true ≡ any p (numbers 0 n)
-  one_found = walk_found p words h n at 0 (any p (numbers 0 n)) (some_begins p n) walked
+module _ (p : ℕ → Bool) (words : List ℕ) (h n : ℕ) where
+  pub one_found : (j : ℕ) (b : Bool) → Walked p words h n (j + 1) → b ≡ p j → b ≡ true → true ≡ any p (numbers 0 n)
+  one_found j b walked = walk_found p words h n 0 (any p (numbers 0 n)) (some_begins p n) j walked b (omega arith)
 
-  pub none_found : at ≤ 0 → false ≡ any p (numbers 0 n)
-  none_found g = walk_ends p words h n at 0 (any p (numbers 0 n)) (some_begins p n) walked g (omega arith)
+  pub none_found : Walked p words h n 0 → false ≡ any p (numbers 0 n)
+  none_found walked = walk_ends p words h n 0 (any p (numbers 0 n)) (some_begins p n) walked (omega arith)
 
--- ---- the loop's bounds
+-- what the loop looks at
+module _ (p : ℕ → Bool) (words : List ℕ) (h n : ℕ) (at : Option ℕ) (walked : Walked p words h n (after at)) where
+  pub walk_at : (j : ℕ) → at ≡ Some j → Walked p words h n (j + 1)
+  walk_at j e = subst (λ o. Walked p words h n (after o)) e walked
 
-module _ (p : ℕ → Bool) (words : List ℕ) (h n at from : ℕ) (walked : Walked p words h n at) where
-  pub walk_low : at ≤ n
-  walk_low = walked.low
+  pub walk_out : at ≡ None → Walked p words h n 0
+  walk_out e = subst (λ o. Walked p words h n (after o)) e walked
 
-  pub walk_within : from < at → at - 1 < n
-  walk_within l = let g = walked.low in omega arith
+pub walk_less : (words : List ℕ) (h j : ℕ) (at next : Option ℕ) → at ≡ Some j → Last words j h (after next) → after next < after at
+walk_less words h j at next e last = subst (λ o. after next < after o) (sym e) (let l = last.low in omega arith)
 
-  pub walk_before : from < at → (0 < at) × (at ≤ n)
-  walk_before l = (omega arith, walked.low)
-
-pub walk_less : (words : List ℕ) (h at from next : ℕ) → from < at → Last words (at - 1) h next → next < at
-walk_less words h at from next l last = let g = last.low in omega arith
-
-pub ruleset walks = (walk_begins, walk_on, walk_low, walk_within, walk_before, walk_less)
+pub ruleset walks = (walk_begins, walk_on, walk_within, walk_at, walk_out, walk_less)
 
 -- ---- the index
 
 pub cleared : Cleared (replicate 1024 0)
 cleared = record { long = length-replicate {A = ℕ} 1024 0; zero = λ h l. get_or-replicate {A = ℕ} 1024 h 0 0 (omega arith) }
-
-pub is_indexed : (words index : List ℕ) (n : ℕ) → Indexed words n index → 1024 ≤ length index → Chains words n index
-is_indexed words index n ix h = ix.chained h

@@ -1,8 +1,9 @@
 // Words chained by their place, so that those at one place are found without the others.
 #![tactic(auto)]
 
-ghost use Rattle.std.specs.Prelude.{◌≡◌, ◌+◌, ◌-◌, ◌≤◌, ◌<◌, length, get_or, set};
-ghost use Rattle.check_chains.specs.Chains.{places, place_of, index_words, Last, Chains, Indexed, Cleared};
+ghost use Rattle.std.specs.Prelude.{◌≡◌, ◌+◌, ◌≤◌, ◌<◌, length, get_or, set, IfSome};
+ghost use Rattle.std.proofs.Props.{props};
+ghost use Rattle.check_chains.specs.Chains.{places, place_of, index_words, after, Last, Chains, Cleared};
 
 // How many places there are; an index has one number for each place, and one for each word.
 pub const PLACES: usize = 512;
@@ -12,11 +13,12 @@ pub const INDEX_WORDS: usize = 1024;
 // Fewer words are gone through: an index is worth making from so many on.
 pub const MANY: usize = 16;
 
-// A number of the index.
-pub fn wide(x: u16) -> usize
-    ensures { result ≡ x }
-{
-    x as usize
+// Words, and an index of them where one was worth making.
+#[derive(Clone, Copy)]
+pub struct Chained<'a> {
+    pub words: &'a [u64],
+    pub index: Option<&'a [u16]>,
+    pub ghost indexed: { IfSome index (λ x. Chains words.now (length words.now) x.now × (index_words ≤ length x.now)) } by { Prim.hlevel props },
 }
 
 // The place of a word.
@@ -37,32 +39,74 @@ pub fn put(word: u64, j: usize, index: &mut [u16])
     index[at] = (j + 1) as u16;
 }
 
-// Chains the first n words.
-pub fn chain(words: &[u64], n: usize, index: &mut [u16])
-    requires { (n ≤ length words.now) × (n ≤ places) × Cleared index.old }
-    ensures { Indexed words.now n index.new }
+// Chains the words.
+pub fn chain(words: &[u64], index: &mut [u16])
+    requires { (length words.now ≤ places) × Cleared index.old }
+    ensures { (length index.new ≡ index_words) × Chains words.now (length words.now) index.new }
 {
-    let mut j: usize = 0;
-    while j < n {
+    for j in 0..words.len() {
         put(words[j], j, index);
-        j += 1;
     }
 }
 
-// The number after the last word at the place of the wanted one, or 0.
-pub fn last_with(words: &[u64], n: usize, index: &[u16], wanted: u64) -> usize
-    requires { Chains words.now n index.now × (index_words ≤ length index.now) }
-    ensures { Last words.now n (place_of wanted) result }
+// The word before which an index's number stands; 0 says that there is none.
+pub fn number_before(number: u16) -> Option<usize>
+    ensures { after result ≡ number }
 {
-    let at = place(wanted);
-    wide(index[at])
+    usize::from(number).checked_sub(1)
 }
 
-// The number after the word that stands at the same place before number `at`, or 0.
-pub fn before(words: &[u64], n: usize, index: &[u16], at: usize) -> usize
-    requires { Chains words.now n index.now × (index_words ≤ length index.now) × (0 < at) × (at ≤ n) }
-    ensures { Last words.now (at - 1) (place_of (get_or words.now (at - 1) 0)) result }
+// The last of the first `end` words that stands at the place, where there is no index.
+fn last_before(words: &[u64], end: usize, at: usize) -> Option<usize>
+    requires { end ≤ length words.now }
+    ensures { Last words.now end at (after result) }
 {
-    let j = at - 1;
-    wide(index[PLACES + j])
+    for j in (0..end).rev() {
+        if place(words[j]) == at {
+            return Some(j);
+        }
+    }
+    None
+}
+
+impl<'a> Chained<'a> {
+    // Words with an index of them.
+    pub fn indexed(words: &'a [u64], index: &'a [u16]) -> Self
+        requires { Chains words.now (length words.now) index.now × (index_words ≤ length index.now) }
+        ensures { result.words.now ≡ words.now }
+    {
+        Chained {
+            words,
+            index: Some(index),
+        }
+    }
+
+    // Words without one.
+    pub fn plain(words: &'a [u64]) -> Self
+        ensures { result.words.now ≡ words.now }
+    {
+        Chained { words, index: None }
+    }
+
+    // The last word at the place of the wanted one.
+    pub fn last_with(&self, wanted: u64) -> Option<usize>
+        ensures { Last self.now.words.now (length self.now.words.now) (place_of wanted) (after result) }
+    {
+        let at = place(wanted);
+        match self.index {
+            Some(index) => number_before(index[at]),
+            None => last_before(self.words, self.words.len(), at),
+        }
+    }
+
+    // The last word before word j that stands at the same place.
+    pub fn before(&self, j: usize) -> Option<usize>
+        requires { j < length self.now.words.now }
+        ensures { Last self.now.words.now j (place_of (get_or self.now.words.now j 0)) (after result) }
+    {
+        match self.index {
+            Some(index) => number_before(index[PLACES + j]),
+            None => last_before(self.words, j, place(self.words[j])),
+        }
+    }
 }

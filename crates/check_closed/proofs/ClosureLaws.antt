@@ -18,7 +18,7 @@ use Rattle.theory.specs.Union.{refuses11}
 use Rattle.theory.proofs.Laws.StepShape.{step_distinct}
 use Rattle.theory.specs.Laws.Lists.{any_append, any_map, any_flat_map, any_iff, numbers_iff}
 use Rattle.theory.specs.Laws.Scans.{some_from, number_scans, skip, some_begins, some_later, some_found, some_none}
-use Rattle.theory.specs.Laws.Scans.{NoneIn, none_yet, none_longer, records_length}
+use Rattle.theory.specs.Laws.Scans.{records_length}
 use Rattle.words.specs.Records.{rule_in}
 use Rattle.words.specs.Words.{query_of, Small, rules_in, union_in, word_atom}
 use Rattle.words.specs.declared.QueryWords.{QueryWords}
@@ -92,23 +92,6 @@ module _ (rules : List ℕ) (k : ℕ) where
 
     pub word_later : (get_or rules j 0 ≡ get_or rules k 0 → ⊥) → some_from same_word (j + 1) k ≡ r
     word_later e = some_later same_word j k r left false h (sym (ne_eqb (get_or rules j 0) (get_or rules k 0) e)) refl
-
-module _ (rules : List ℕ) (count : ℕ) (within : count ≤ length rules) where
-  -- equal words are equal steps
-  pub same_step : (q : Query) (i j k : ℕ) → j < count → k < count → get_or rules j 0 ≡ get_or rules k 0
-      → rule_step (rules_in rules count) q i j
-      ≡ rule_step (rules_in rules count) q i k
-  unfolding rule_step
-  same_step q i j k g h e = simp (rule_there rules count within j g, rule_there rules count within k h, e)
-
-  -- where no earlier rule leads outside, one whose word stands earlier does not
-  pub no_second_try : (union : UCQ) (q : Query) (i k : ℕ) (b : Bool) → k < count → NoneIn (rule_out union q (rules_in rules count) i) 0 k
-      → b ≡ any (same_word rules k) (numbers 0 k) → b ≡ true → false ≡ rule_out union q (rules_in rules count) i k
-  no_second_try union q i k b h before e f =
-      let (j, m, t) = (any_iff (same_word rules k) (numbers 0 k)).0 (subst T (sym (sym e ∙ f)) tt) in
-      let l = (numbers_iff k j).0 m in
-      sym (sym (ap (leads_outside union) (same_step q i j k (omega arith) h (eqb→eq (get_or rules j 0) (get_or rules k 0) t)))
-      ∙ before.each j (omega arith) l)
 
 -- ---- merges
 
@@ -208,11 +191,8 @@ pub ruleset laws = (
   leads_nowhere,
   rule_leads,
   rule_passed,
-  none_yet,
-  none_longer,
   word_found,
   word_later,
-  no_second_try,
   merges_begin,
   merge_distinct,
   merge_leads,

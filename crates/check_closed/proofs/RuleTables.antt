@@ -3,8 +3,10 @@ use mathlib.Core.Path.{◌≡◌, refl, sym, ap, ap₂, ◌∙◌, subst}
 use Prim.Native.Nat.{ℕ, ◌%◌, ◌≤◌, ◌<◌}
 use native.Mathlib.Omega.{arith}
 use mathlib.Core.Bool.{Bool, false, ◌||◌}
-use mathlib.Core.List.{List, [], ◌∷◌}
-use lib.ListN.{length, get_or}
+use mathlib.Core.List.{List, [], ◌∷◌, map}
+use lib.ListN.{length, get_or, take}
+use lib.Seq.{take-length}
+use Rattle.std.proofs.Common.{length-take-le}
 use lib.Dec.{T}
 use borrow.Author.Rules.{rules}
 use Rattle.theory.specs.Lists.{any, numbers}
@@ -13,13 +15,13 @@ use Rattle.theory.specs.Rewriting.{rule_step, steps}
 use Rattle.theory.specs.Union.{refuses11}
 use Rattle.theory.specs.Laws.Lists.{any_iff, numbers_iff}
 use Rattle.theory.specs.Laws.Options.{same_test}
-use Rattle.words.specs.Records.{right_name}
+use Rattle.words.specs.Records.{rule_in, right_name}
 use Rattle.words.specs.Words.{query_of, Small, rules_in, word_name}
 use Rattle.words.specs.declared.QueryWords.{QueryWords}
 use Rattle.words.specs.Laws.Rows.{rows, rules_length, rule_there}
 use Rattle.query_rule.proofs.RuleLaws.{number_differs}
 use Rattle.check_chains.specs.Chains.{places, place_of, Last}
-use Rattle.check_chains.specs.WalkLaws.{OnlyAt, Walked, walk_begins, walks, one_found, none_found, cleared, is_indexed}
+use Rattle.check_chains.specs.WalkLaws.{OnlyAt, Walked, walk_begins, walks, one_found, none_found, cleared}
 use Rattle.check_rules.specs.SameWords.{SameWords}
 use Rattle.check_closed.specs.Outside.{outside, leads_outside, rule_out, rules_out, merges_out}
 use Rattle.check_closed.proofs.ClosureLaws.{rule_passed, each_step, any_agree}
@@ -107,21 +109,22 @@ module _ (rules : List ℕ) (count : ℕ) (words : List ℕ) (m : ℕ) (within :
       go [] = refl
       go (n ∷ ms) = ap₂ ◌||◌ (same_steps n.query) (go ms)
 
-pub eleven_too : (rules : List ℕ) (count : ℕ) (words : List ℕ) (m : ℕ) (union : UCQ) (b : Bool) (q : Query)
-    → SameWords rules count words m → count ≤ length rules → ((p : Query) → b ≡ refuses11 (rules_in words m) p union)
-    → b ≡ refuses11 (rules_in rules count) q union
-eleven_too rules count words m union b q same within f = f q ∙ same_eleven rules count words m within same union q
+-- a table's first words, as a table of their own
+rules_taken : (words : List ℕ) (m : ℕ) → rules_in (take m words) (length (take m words)) ≡ rules_in words m
+unfolding rules_in
+rules_taken words m = ap (map rule_in) (take-length (take m words))
 
--- ---- the tables
+module _ (rules words : List ℕ) (m : ℕ) (same : SameWords rules (length rules) words m) where
+  pub eleven_too : (table : List ℕ) (union : UCQ) (b : Bool) (q : Query) → table ≡ take m words
+      → ((p : Query) → b ≡ refuses11 (rules_in table (length table)) p union) → b ≡ refuses11 (rules_in rules (length rules)) q union
+  eleven_too table union b q e f =
+      f q ∙ ap (λ t. refuses11 (rules_in t (length t)) q union) e ∙ ap (λ rs. refuses11 rs q union) (rules_taken words m)
+      ∙ same_eleven rules (length rules) words m (omega arith) same union q
 
-module _ (rules : List ℕ) (count : ℕ) (words : List ℕ) (m : ℕ) (same : SameWords rules count words m) where
-  pub words_few : count ≤ places → m ≤ places
-  words_few few = let l = same.fewer in omega arith
+  pub words_few : length rules ≤ places → length (take m words) ≤ places
+  words_few few = let l = same.fewer in rw (length-take-le m words same.room) (omega arith)
 
-  pub words_within : m ≤ length words
-  words_within = same.room
-
-pub ruleset laws = (rules, rows, eleven_too, cleared, words_few, words_within, is_indexed)
+pub ruleset laws = (rules, rows, eleven_too, cleared, words_few)
 
 -- for the loop along a chain
 pub ruleset chain_laws = (rules, rows, rules_begin, walks, one_found, none_found)

@@ -6,16 +6,17 @@ ghost use Rattle.theory.specs.Lists.{Unrepeated, any, numbers};
 ghost use Rattle.theory.specs.Syntax.{Query};
 ghost use Rattle.theory.specs.Rewriting.{steps};
 ghost use Rattle.theory.specs.Union.{refuses11 as refuses_eleven};
-ghost use Rattle.theory.specs.Laws.Scans.{NoneIn};
-ghost use Rattle.words.specs.Words.{query_of, Small, rules_in, union_in};
-ghost use Rattle.words.specs.Rows.{Rows, member_in};
+ghost use Rattle.words.specs.Words.{query_of, Small, rules_in};
+ghost use Rattle.words.specs.Rows.{member_in};
 ghost use Rattle.query_steps.specs.StepResults.{query_found};
-ghost use Rattle.check_chains.specs.Chains.{places, index_words, Chains, Indexed};
-ghost use Rattle.check_distinct.specs.Keys.{Keys};
+ghost use Rattle.check_chains.specs.Chains.{places};
+ghost use Rattle.check_distinct.specs.Union.{union_of};
 ghost use Rattle.check_closed.specs.Outside.{outside, leads_outside, rule_out, rules_out, merges_out};
+ghost use Rattle.check_closed.specs.Rules.{rules_of};
 
-use check_chains::{INDEX_WORDS, MANY, PLACES, before, chain, last_with};
-use check_distinct::alike_to_indexed;
+use check_chains::{Chained, INDEX_WORDS, MANY, PLACES, chain};
+use check_distinct::alike_to_member;
+use check_distinct::members::Members;
 use check_rules::distinct;
 use query_rule::names;
 use query_steps::steps::{QueryFound, merge_step, rule_step};
@@ -23,21 +24,11 @@ use words::rows::load;
 use words::{QueryWords, number_of};
 
 // Whether a step gives a question that is alike to no member.
-fn leads_outside(r: QueryFound, table: &[u64], n: usize, keys: &[u64], index: &[u16]) -> bool
-    requires { Small r.query × (r.found ≡ true → Unrepeated (query_of r.query).atoms) × Rows table.now n
-        × Keys table.now n keys.now × Indexed keys.now n index.now }
-    ensures { result ≡ leads_outside (union_in table.now n) (query_found r) }
+fn leads_outside(r: QueryFound, members: &Members) -> bool
+    requires { Small r.query × (r.found ≡ true → Unrepeated (query_of r.query).atoms) }
+    ensures { result ≡ leads_outside (union_of members.now) (query_found r) }
 {
-    let q = r.query;
-    if r.found {
-        if alike_to_indexed(q, table, n, keys, index) {
-            false
-        } else {
-            true
-        }
-    } else {
-        false
-    }
+    r.found && !alike_to_member(r.query, members)
 }
 
 // Whether the rule word at index k stands earlier in the table.
@@ -46,301 +37,122 @@ pub fn repeated(rules: &[u64], k: usize) -> bool
     ensures { result ≡ any (λ j. eqb (get_or rules.now j 0) (get_or rules.now k 0)) (numbers 0 k) }
 {
     let word = rules[k];
-    let mut earlier: usize = 0;
-    while earlier < k {
+    for earlier in 0..k {
         if rules[earlier] == word {
             return true;
         }
-        earlier += 1;
     }
     false
 }
 
-// Whether rule k leads outside from atom i, where no earlier one does: a rule for another predicate makes nothing of the atom, and a
-// word that stands earlier needs no second try.
-fn rule_leads_outside(
-    rules: &[u64],
-    count: usize,
-    q: QueryWords,
-    i: usize,
-    k: usize,
-    table: &[u64],
-    n: usize,
-    keys: &[u64],
-    index: &[u16],
-) -> bool
-    requires { (count ≤ length rules.now) × (k < count) × Small q × (i < q.size) × Rows table.now n × Keys table.now n keys.now
-        × Indexed keys.now n index.now × NoneIn (rule_out (union_in table.now n) (query_of q) (rules_in rules.now count) i) 0 k }
-    ensures { result ≡ rule_out (union_in table.now n) (query_of q) (rules_in rules.now count) i k }
+// Whether rule k leads outside from atom i: a rule for another predicate makes nothing of the atom.
+fn rule_leads_outside(rules: &Chained, q: QueryWords, i: usize, k: usize, members: &Members) -> bool
+    requires { (k < length rules.now.words.now) × Small q × (i < q.size) }
+    ensures { result ≡ rule_out (union_of members.now) (query_of q) (rules_of rules.now) i k }
 {
-    let rule = rules[k];
+    let rule = rules.words[k];
     let atoms = q.atoms;
-    if names(rule, atoms[i]) {
-        if repeated(rules, k) {
-            false
-        } else {
-            leads_outside(rule_step(q, i, rule), table, n, keys, index)
-        }
-    } else {
-        false
-    }
-}
-
-// Whether some rule leads outside from atom i: the rules are gone through.
-fn rules_in_turn(
-    rules: &[u64],
-    count: usize,
-    q: QueryWords,
-    i: usize,
-    table: &[u64],
-    n: usize,
-    keys: &[u64],
-    index: &[u16],
-) -> bool
-    requires { (count ≤ length rules.now) × Small q × (i < q.size) × Rows table.now n × Keys table.now n keys.now
-        × Indexed keys.now n index.now }
-    ensures { result ≡ rules_out (union_in table.now n) (query_of q) (rules_in rules.now count) count i }
-{
-    let mut k: usize = 0;
-    while k < count {
-        if rule_leads_outside(rules, count, q, i, k, table, n, keys, index) {
-            return true;
-        }
-        k += 1;
-    }
-    false
-}
-
-// Whether rule k leads outside from atom i.
-fn rule_tried(
-    rules: &[u64],
-    count: usize,
-    q: QueryWords,
-    i: usize,
-    k: usize,
-    table: &[u64],
-    n: usize,
-    keys: &[u64],
-    index: &[u16],
-) -> bool
-    requires { (count ≤ length rules.now) × (k < count) × Small q × (i < q.size) × Rows table.now n × Keys table.now n keys.now
-        × Indexed keys.now n index.now }
-    ensures { result ≡ rule_out (union_in table.now n) (query_of q) (rules_in rules.now count) i k }
-{
-    let rule = rules[k];
-    let atoms = q.atoms;
-    if names(rule, atoms[i]) {
-        leads_outside(rule_step(q, i, rule), table, n, keys, index)
-    } else {
-        false
-    }
+    names(rule, atoms[i]) && leads_outside(rule_step(q, i, rule), members)
 }
 
 // Whether some rule leads outside from atom i: only rules at the place of the atom's name are looked at. The name is the low bits of a
 // rule's word, which are its right side's.
-fn rules_along(
-    rules: &[u64],
-    count: usize,
-    chains: &[u16],
-    q: QueryWords,
-    i: usize,
-    table: &[u64],
-    n: usize,
-    keys: &[u64],
-    index: &[u16],
-) -> bool
-    requires { (count ≤ length rules.now) × Chains rules.now count chains.now × (index_words ≤ length chains.now) × Small q
-        × (i < q.size) × Rows table.now n × Keys table.now n keys.now × Indexed keys.now n index.now }
-    ensures { result ≡ rules_out (union_in table.now n) (query_of q) (rules_in rules.now count) count i }
+fn rules_lead_outside(rules: &Chained, q: QueryWords, i: usize, members: &Members) -> bool
+    requires { Small q × (i < q.size) }
+    ensures { result ≡ rules_out (union_of members.now) (query_of q) (rules_of rules.now) (length rules.now.words.now) i }
 {
     let atoms = q.atoms;
-    let mut at = last_with(rules, count, chains, number_of(atoms[i]));
-    while 0 < at {
-        if rule_tried(rules, count, q, i, at - 1, table, n, keys, index) {
+    let mut at = rules.last_with(number_of(atoms[i]));
+    while let Some(k) = at {
+        if rule_leads_outside(rules, q, i, k, members) {
             return true;
         }
-        at = before(rules, count, chains, at);
+        at = rules.before(k);
     }
     false
 }
 
-// Whether some rule leads outside from atom i, by the chains where there are any.
-fn rules_lead_outside(
-    rules: &[u64],
-    count: usize,
-    chains: &[u16],
-    q: QueryWords,
-    i: usize,
-    table: &[u64],
-    n: usize,
-    keys: &[u64],
-    index: &[u16],
-) -> bool
-    requires { (count ≤ length rules.now) × Indexed rules.now count chains.now × Small q × (i < q.size)
-        × Rows table.now n × Keys table.now n keys.now × Indexed keys.now n index.now }
-    ensures { result ≡ rules_out (union_in table.now n) (query_of q) (rules_in rules.now count) count i }
-{
-    if chains.len() < INDEX_WORDS {
-        rules_in_turn(rules, count, q, i, table, n, keys, index)
-    } else {
-        rules_along(rules, count, chains, q, i, table, n, keys, index)
-    }
-}
-
 // Whether some rule leads outside from some atom.
-fn atoms_lead_outside(
-    rules: &[u64],
-    count: usize,
-    chains: &[u16],
-    q: QueryWords,
-    table: &[u64],
-    n: usize,
-    keys: &[u64],
-    index: &[u16],
-) -> bool
-    requires { (count ≤ length rules.now) × Indexed rules.now count chains.now × Small q
-        × Rows table.now n × Keys table.now n keys.now × Indexed keys.now n index.now }
-    ensures { result ≡ any (rules_out (union_in table.now n) (query_of q) (rules_in rules.now count) count)
+fn atoms_lead_outside(rules: &Chained, q: QueryWords, members: &Members) -> bool
+    requires { Small q }
+    ensures { result ≡ any (rules_out (union_of members.now) (query_of q) (rules_of rules.now) (length rules.now.words.now))
         (numbers 0 q.size) }
 {
-    let size = q.size;
-    let mut i: usize = 0;
-    while i < size {
-        if rules_lead_outside(rules, count, chains, q, i, table, n, keys, index) {
+    for i in 0..q.size {
+        if rules_lead_outside(rules, q, i, members) {
             return true;
         }
-        i += 1;
     }
     false
 }
 
 // Whether a merge of atom i with a later one leads outside.
-fn merges_lead_outside(
-    q: QueryWords,
-    i: usize,
-    table: &[u64],
-    n: usize,
-    keys: &[u64],
-    index: &[u16],
-) -> bool
-    requires { Small q × (i < q.size) × Rows table.now n × Keys table.now n keys.now
-        × Indexed keys.now n index.now }
-    ensures { result ≡ merges_out (union_in table.now n) (query_of q) q.size i }
+fn merges_lead_outside(q: QueryWords, i: usize, members: &Members) -> bool
+    requires { Small q × (i < q.size) }
+    ensures { result ≡ merges_out (union_of members.now) (query_of q) q.size i }
 {
-    let size = q.size;
-    let mut j = i + 1;
-    while j < size {
-        if leads_outside(merge_step(q, i, j), table, n, keys, index) {
+    for j in i + 1..q.size {
+        if leads_outside(merge_step(q, i, j), members) {
             return true;
         }
-        j += 1;
     }
     false
 }
 
 // Whether some merge leads outside.
-fn pairs_lead_outside(q: QueryWords, table: &[u64], n: usize, keys: &[u64], index: &[u16]) -> bool
-    requires { Small q × Rows table.now n × Keys table.now n keys.now
-        × Indexed keys.now n index.now }
-    ensures { result ≡ any (merges_out (union_in table.now n) (query_of q) q.size) (numbers 0 q.size) }
+fn pairs_lead_outside(q: QueryWords, members: &Members) -> bool
+    requires { Small q }
+    ensures { result ≡ any (merges_out (union_of members.now) (query_of q) q.size) (numbers 0 q.size) }
 {
-    let size = q.size;
-    let mut first: usize = 0;
-    while first < size {
-        if merges_lead_outside(q, first, table, n, keys, index) {
+    for first in 0..q.size {
+        if merges_lead_outside(q, first, members) {
             return true;
         }
-        first += 1;
     }
     false
 }
 
 // Whether some step from member m leads outside.
-fn member_leads_outside(
-    rules: &[u64],
-    count: usize,
-    chains: &[u16],
-    table: &[u64],
-    n: usize,
-    keys: &[u64],
-    index: &[u16],
-    m: usize,
-) -> bool
-    requires { (count ≤ length rules.now) × Indexed rules.now count chains.now × Rows table.now n × Keys table.now n keys.now
-        × Indexed keys.now n index.now × (m < n) }
-    ensures { result ≡ any (outside (union_in table.now n))
-        (steps (rules_in rules.now count) (member_in table.now m).query) }
+fn member_leads_outside(rules: &Chained, members: &Members, m: usize) -> bool
+    requires { m < length members.now.keys.words.now }
+    ensures { result ≡ any (outside (union_of members.now)) (steps (rules_of rules.now) (member_in members.now.table.now m).query) }
 {
-    let q = load(table, m);
-    if atoms_lead_outside(rules, count, chains, q, table, n, keys, index) {
-        true
-    } else {
-        pairs_lead_outside(q, table, n, keys, index)
-    }
+    let q = load(members.table, m);
+    atoms_lead_outside(rules, q, members) || pairs_lead_outside(q, members)
 }
 
-// Whether some step from some member leads outside, with the rules' table and perhaps chains of it.
-fn some_lead_outside(
-    rules: &[u64],
-    count: usize,
-    chains: &[u16],
-    table: &[u64],
-    n: usize,
-    keys: &[u64],
-    index: &[u16],
-) -> bool
-    requires { (count ≤ length rules.now) × Indexed rules.now count chains.now × Rows table.now n × Keys table.now n keys.now
-        × Indexed keys.now n index.now }
-    ensures { (q : Query) → result ≡ refuses_eleven (rules_in rules.now count) q (union_in table.now n) }
+// Whether some step from some member leads outside.
+fn some_lead_outside(rules: &Chained, members: &Members) -> bool
+    ensures { (q : Query) → result ≡ refuses_eleven (rules_of rules.now) q (union_of members.now) }
 {
-    let mut m: usize = 0;
-    while m < n {
-        if member_leads_outside(rules, count, chains, table, n, keys, index, m) {
+    for m in 0..members.count() {
+        if member_leads_outside(rules, members, m) {
             return true;
         }
-        m += 1;
     }
     false
 }
 
 // The same with each rule once, chained by the names of right sides.
-fn some_by_chains(
-    rules: &[u64],
-    count: usize,
-    table: &[u64],
-    n: usize,
-    keys: &[u64],
-    index: &[u16],
-) -> bool
-    requires { (count ≤ length rules.now) × (count ≤ places) × Rows table.now n × Keys table.now n keys.now
-        × Indexed keys.now n index.now }
-    ensures { (q : Query) → result ≡ refuses_eleven (rules_in rules.now count) q (union_in table.now n) }
+fn some_by_chains(rules: &[u64], members: &Members) -> bool
+    requires { length rules.now ≤ places }
+    ensures { (q : Query) → result ≡ refuses_eleven (rules_in rules.now (length rules.now)) q (union_of members.now) }
 {
-    let mut words = [0u64; PLACES];
-    let mut chains = [0u16; INDEX_WORDS];
-    let m = distinct(rules, count, &mut words);
-    chain(&words, m, &mut chains);
-    some_lead_outside(&words, m, &chains, table, n, keys, index)
+    let mut table = [0u64; PLACES];
+    let mut index = [0u16; INDEX_WORDS];
+    let count = distinct(rules, &mut table);
+    chain(&table[..count], &mut index);
+    some_lead_outside(&Chained::indexed(&table[..count], &index), members)
 }
 
-// Refusal 11: a step from some member leads outside. Chains of the rules are worth making where both rules and members are many.
-pub fn refuses11(
-    rules: &[u64],
-    count: usize,
-    table: &[u64],
-    n: usize,
-    keys: &[u64],
-    index: &[u16],
-) -> bool
-    requires { (count ≤ length rules.now) × Rows table.now n × Keys table.now n keys.now × Indexed keys.now n index.now }
-    ensures { (q : Query) → result ≡ refuses_eleven (rules_in rules.now count) q (union_in table.now n) }
+// Refusal 11: a step from some member leads outside. Chains of the rules are worth making where they are many.
+pub fn refuses11(rules: &[u64], members: &Members) -> bool
+    ensures { (q : Query) → result ≡ refuses_eleven (rules_in rules.now (length rules.now)) q (union_of members.now) }
 {
-    if MANY <= count {
-        if MANY <= n {
-            if count <= PLACES {
-                return some_by_chains(rules, count, table, n, keys, index);
-            }
+    if MANY <= rules.len() {
+        if rules.len() <= PLACES {
+            return some_by_chains(rules, members);
         }
     }
-    some_lead_outside(rules, count, &[], table, n, keys, index)
+    some_lead_outside(&Chained::plain(rules), members)
 }

@@ -21,7 +21,7 @@ use Rattle.words.specs.Laws.Rows.{rows, union_from, next_member}
 use Rattle.query_key.specs.Key.{key}
 use Rattle.query_key.proofs.KeyLaws.{unlike_keys}
 use Rattle.check_chains.specs.Chains.{place_of}
-use Rattle.check_chains.specs.WalkLaws.{OnlyAt, walk_found, walk_ends, walks, is_indexed}
+use Rattle.check_chains.specs.WalkLaws.{OnlyAt, walk_found, walk_past, walk_ends, walks}
 use Rattle.check_distinct.specs.Keys.{Keys}
 
 -- ---- the keys are filled in
@@ -47,16 +47,6 @@ all_keys table keys first n j below h g room l = record { room = omega arith; ea
 pub key_room : (table keys : List ℕ) (n : ℕ) → Keys table n keys → n ≤ length keys
 key_room table keys n ks = ks.room
 
--- ---- another key
-
-pub not_there_either : (keys : List ℕ) (from i wanted : ℕ) → ((k : ℕ) → from ≤ k → k < i → get_or keys k 0 ≡ wanted → ⊥)
-    → (get_or keys i 0 ≡ wanted → ⊥) → (k : ℕ) → from ≤ k → k < i + 1 → get_or keys k 0 ≡ wanted → ⊥
-not_there_either keys from i wanted before here k h l =
-    below_more (λ k. from ≤ k → get_or keys k 0 ≡ wanted → ⊥) i (λ k l g. before k g l) (λ g. here) k l h
-
-pub not_below : (keys : List ℕ) (i n wanted : ℕ) → n ≤ i → i < n → get_or keys i 0 ≡ wanted
-not_below keys i n wanted h g = absurd (omega arith)
-
 -- ---- a question and the members from a number on
 
 abbrev pub alike_at : Query → List ℕ → ℕ → Bool
@@ -66,15 +56,6 @@ pub members_from_lem : (q : Query) (table : List ℕ) (n i : ℕ)
     → some_from (alike_at q table) i n ≡ any (λ m. alike q m.query) (drop i (union_in table n))
 members_from_lem q table n i =
     sym (ap (any (λ m. alike q m.query)) (union_from table n i) ∙ any_map (λ m. alike q m.query) (member_in table) (numbers i (n - i)))
-
-pub passed_over : (q : QueryWords) (wanted : ℕ) (table keys : List ℕ) (n from to : ℕ) (r : Bool) → Unrepeated (query_of q).atoms
-    → wanted ≡ key (query_of q) → Rows table n → Keys table n keys → from ≤ to → to ≤ n
-    → ((i : ℕ) → from ≤ i → i < to → get_or keys i 0 ≡ wanted → ⊥) → some_from (alike_at (query_of q) table) from n ≡ r
-    → some_from (alike_at (query_of q) table) to n ≡ r
-passed_over q wanted table keys n from to r u e rows keys-are h g differ left =
-    sym (skip (alike_at (query_of q) table) n to (to - from) from (omega arith) g
-    (λ i k l. unlike_keys (query_of q) (member_in table i).query u (rows.each i (omega arith)).distinct
-    (λ d. differ i k l (keys-are.each i (omega arith) ∙ sym d ∙ sym e)))) ∙ left
 
 -- a member that was compared
 pub found_alike : (q m : QueryWords) (table : List ℕ) (j : ℕ) (b : Bool) → query_of m ≡ (member_in table j).query
@@ -140,19 +121,15 @@ pub ruleset laws = (
   keys_more,
   all_keys,
   key_room,
-  not_there_either,
-  not_below,
   members_from_lem,
-  passed_over,
   found_alike,
   member_distinct,
   member_key,
   other_key,
-  is_indexed,
   is_ten,
   has_twin,
   twin_found,
 )
 
 -- for the loop along a chain
-pub ruleset chain_laws = (rules, rows, key_room, members_from_lem, keys_only, walks, walk_found, walk_ends)
+pub ruleset chain_laws = (rules, rows, key_room, members_from_lem, keys_only, walks, walk_found, walk_past, walk_ends)

@@ -1,2 +1,4 @@
 -- What the contracts cite.
 pub mod Keys
+pub mod Facts
+pub mod Union

@@ -19,11 +19,8 @@ fn equal_terms(a: [u64; MOST_TERMS], b: [u64; MOST_TERMS], n: usize) -> bool
     requires { (n ≤ most_terms) × TermWords a × TermWords b }
     ensures { result ≡ pairwise same_term (map word_term (take n a)) (map word_term (take n b)) }
 {
-    let mut i: usize = 0;
-    while i < n {
-        if same_term(a[i], b[i]) {
-            i += 1;
-        } else {
+    for i in 0..n {
+        if !same_term(a[i], b[i]) {
             return false;
         }
     }
@@ -35,11 +32,8 @@ fn equal_atoms(a: [u64; MOST_ATOMS], b: [u64; MOST_ATOMS], n: usize) -> bool
     requires { n ≤ most_atoms }
     ensures { result ≡ pairwise same_atom (map word_atom (take n a)) (map word_atom (take n b)) }
 {
-    let mut i: usize = 0;
-    while i < n {
-        if same_atom(a[i], b[i]) {
-            i += 1;
-        } else {
+    for i in 0..n {
+        if !same_atom(a[i], b[i]) {
             return false;
         }
     }
@@ -51,21 +45,13 @@ fn same_query(p: QueryWords, q: QueryWords) -> bool
     requires { Small p × Small q }
     ensures { result ≡ same_query (query_of p) (query_of q) }
 {
-    let answers = p.answers;
-    let others = q.answers;
-    let atoms = p.atoms;
-    let other_atoms = q.atoms;
     if p.terms != q.terms {
         return false;
     }
     if p.size != q.size {
         return false;
     }
-    if equal_terms(answers, others, p.terms) {
-        equal_atoms(atoms, other_atoms, p.size)
-    } else {
-        false
-    }
+    equal_terms(p.answers, q.answers, p.terms) && equal_atoms(p.atoms, q.atoms, p.size)
 }
 
 // Refusal 7: member 0 has a step, or is not the question.
@@ -76,10 +62,5 @@ pub fn refuses7(question: QueryWords, table: &[u64], n: usize) -> bool
     if n == 0 {
         return true;
     }
-    if zero_step(table[0]) {
-        if same_query(load(table, 0), question) {
-            return false;
-        }
-    }
-    true
+    !zero_step(table[0]) || !same_query(load(table, 0), question)
 }

@@ -5,7 +5,7 @@ ghost use Rattle.std.specs.Prelude.{◌≡◌, ◌+◌, ◌≤◌, ◌<◌, leng
 ghost use Rattle.check_chains.specs.Chains.{places, index_words};
 ghost use Rattle.check_rules.specs.SameWords.{OnlyIfAmong, SameWords};
 
-use check_chains::{INDEX_WORDS, PLACES, place, put, wide};
+use check_chains::{INDEX_WORDS, PLACES, number_before, place, put};
 
 // A number that all bits of a rule's word decide. The words so far are chained by it; what is promised needs nothing of these chains: a
 // word that they do not lead to counts as new.
@@ -18,19 +18,15 @@ fn found(word: u64, words: &[u64], n: usize, chains: &[u16]) -> bool
     requires { (n ≤ length words.now) × (n ≤ places) × (length chains.now ≡ index_words) }
     ensures { OnlyIfAmong word words.now n result }
 {
-    let mut at = wide(chains[place(code(word))]);
-    while 0 < at {
-        if n < at {
+    let mut at = number_before(chains[place(code(word))]);
+    while let Some(j) = at {
+        if n <= j {
             return false;
         }
-        if words[at - 1] == word {
+        if words[j] == word {
             return true;
         }
-        let next = wide(chains[PLACES - 1 + at]);
-        if at <= next {
-            return false;
-        }
-        at = next;
+        at = number_before(chains[PLACES + j]).filter(|next| *next < j);
     }
     false
 }
@@ -50,17 +46,15 @@ fn take(rules: &[u64], k: usize, words: &mut [u64], m: usize, chains: &mut [u16]
     m + 1
 }
 
-// Puts the first `count` words of the rule table into the other, a word that stands there already passed over. Their number.
-pub fn distinct(rules: &[u64], count: usize, words: &mut [u64]) -> usize
-    requires { (count ≤ length rules.now) × (count ≤ places) × (places ≤ length words.old) }
-    ensures { SameWords rules.now count words.new result }
+// Puts the words of the rule table into the other, a word that stands there already passed over. Their number.
+pub fn distinct(rules: &[u64], words: &mut [u64]) -> usize
+    requires { (length rules.now ≤ places) × (places ≤ length words.old) }
+    ensures { SameWords rules.now (length rules.now) words.new result }
 {
     let mut chains = [0u16; INDEX_WORDS];
     let mut m: usize = 0;
-    let mut k: usize = 0;
-    while k < count {
+    for k in 0..rules.len() {
         m = take(rules, k, words, m, &mut chains);
-        k += 1;
     }
     m
 }

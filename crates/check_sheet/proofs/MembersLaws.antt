@@ -7,7 +7,8 @@ use mathlib.Core.Bool.{Bool, true, false}
 use mathlib.Core.List.Memᴰ
 use mathlib.Core.List.{List}
 use lib.Dec.{T}
-use lib.ListN.{length, drop}
+use lib.ListN.{length, take, drop}
+use Rattle.std.proofs.Common.{length-take-le}
 use borrow.Author.Rules.{rules}
 use Rattle.theory.specs.Lists.{◌∈◌, Unrepeated, pick}
 use Rattle.theory.specs.Syntax.{var, Rule, Query, Member, terms}
@@ -55,20 +56,7 @@ no_six : (b : Bool) → ◌≡◌ {A = ℕ} 0 (pick b 6 0) → ¬ T b
 no_six true e t = omega arith
 no_six false e t = t
 
-six_decides : (b : Bool) (x number : ℕ) → number ≡ pick b 6 0 → (number ≡ 0 → ⊥) → number ≡ pick b 6 x
-six_decides true x number e h = e
-six_decides false x number e h = absurd (h e)
-
 module _ (p s : List ℕ) (arity : ℕ) (table : List ℕ) (number n : ℕ) (read : UnionRead p s arity table number n) where
-  pub members_refused : (rules : List Rule) (q : Query) → (number ≡ 0 → ⊥) → MembersRead p rules q arity s table number n
-  members_refused rules q h = record {
-    number_is =
-        six_decides (refuses6 p sheet_width arity s) (number_of (check rules q (union_as_read p sheet_width s))) number
-        read.sheet.number_is h;
-    union_is = λ z. absurd (h z);
-    members = λ z. absurd (h z);
-  }
-
   pub few_members : n ≤ most_members
   few_members = read.sheet.few
 
@@ -107,12 +95,20 @@ module _ (p s : List ℕ) (arity : ℕ) (table : List ℕ) (number n : ℕ) (rea
         constants = λ m k. constants_in_range p s m (mem_along same_members k);
       }
 
-      pub members_checked : (rules : List Rule) (q : Query) (r : ℕ) → r ≡ number_of (check rules q (union_in table n))
-          → MembersRead p rules q arity s table r n
-      members_checked rules q r f = record {
-        number_is = rw (is_false (refuses6 p sheet_width arity s) not6) (f ∙ ap (λ u. number_of (check rules q u)) same_members);
-        union_is = λ z. same_members;
-        members = λ z. members_filled;
-      }
+      -- the keys' list has one for each member
+      module _ (keys : List ℕ) (room : n ≤ length keys) where
+        pub rows_too : Rows table (length (take n keys))
+        rows_too = rw (length-take-le n keys room) rows_filled
 
-pub ruleset laws = (rules, members_refused, few_members, rows_filled, members_checked)
+        pub members_checked : (rules : List Rule) (q : Query)
+            → 0 ≡ number_of (check rules q (union_in table (length (take n keys)))) → MembersRead p rules q arity s table 0 n
+        members_checked rules q f = record {
+          number_is =
+              rw (is_false (refuses6 p sheet_width arity s) not6)
+              (f ∙ ap (λ k. number_of (check rules q (union_in table k))) (length-take-le n keys room)
+              ∙ ap (λ u. number_of (check rules q u)) same_members);
+          union_is = λ z. same_members;
+          members = λ z. members_filled;
+        }
+
+pub ruleset laws = (rules, few_members, rows_too, members_checked)

@@ -6,6 +6,7 @@ use mathlib.Core.Bool.{Bool, true, false, not, ◌||◌}
 use mathlib.Core.Option.{Option, none, some}
 use mathlib.Core.List.{List, [], ◌∷◌, map}
 use lib.ListN.{length, get_or, drop}
+use lib.Dec.{T}
 use borrow.Author.Rules.{rules}
 use borrow.Author.Tests.{eq-eqb, ne_eqb, lt-ltb, le-ltb}
 use Rattle.theory.specs.Lists.{At, any, guard, is_some, numbers}
@@ -24,7 +25,7 @@ use Rattle.query_steps.specs.declared.steps.QueryFound.{QueryFound}
 use Rattle.query_steps.specs.StepResults.{query_found}
 use Rattle.query_steps.proofs.StepLaws.{nothing_found}
 use Rattle.theory.specs.Explaining.{step_from}
-use Rattle.check_steps.specs.Written.{FaultsOf}
+use Rattle.check_steps.specs.Written.{yields_alike}
 
 -- ---- a question that was found, or not
 
@@ -48,21 +49,12 @@ module _ (r : QueryFound) (o : Option Query) (e : query_found r ≡ o) where
   unfolding is_some
   fails f = sym (ap (λ x. not (is_some x)) (is_none f))
 
-  pub nothing_unlike : (q : Query) → r.found ≡ false → false ≡ yields_unlike o q
-  unfolding yields_unlike
-  nothing_unlike q f = sym (ap (λ x. yields_unlike x q) (is_none f))
+  pub nothing_alike : (q : Query) → r.found ≡ false → false ≡ yields_alike o q
+  nothing_alike q f = sym (ap (λ x. yields_alike x q) (is_none f))
 
-  module _ (b : Bool) (m : QueryWords) (q : Query) (f : r.found ≡ true) (g : b ≡ alike (query_of r.query) (query_of m))
-      (h : query_of m ≡ q) where
-    compared : yields_unlike o q ≡ not b
-    unfolding yields_unlike
-    compared = ap (λ x. yields_unlike x q) (is_found f) ∙ simp (sym h, sym g)
-
-    pub yields_alike : b ≡ true → false ≡ yields_unlike o q
-    yields_alike i = sym (compared ∙ ap not i)
-
-    pub yields_unlike_lem : b ≡ false → true ≡ yields_unlike o q
-    yields_unlike_lem i = sym (compared ∙ ap not i)
+  pub compared : (b : Bool) (m : QueryWords) (q : Query) → r.found ≡ true → b ≡ alike (query_of r.query) (query_of m) → query_of m ≡ q
+      → b ≡ yields_alike o q
+  compared b m q f g h = g ∙ ap (alike (query_of r.query)) h ∙ sym (ap (λ x. yields_alike x q) (is_found f))
 
 -- ---- a rule by its number
 
@@ -171,38 +163,50 @@ pub record RightBefore (rules : List Rule) (table : List ℕ) (n k : ℕ) : Type
 pub none_before : (rules : List Rule) (table : List ℕ) (n : ℕ) → RightBefore rules table n 1
 none_before rules table n = record { fails = refl; unlike = refl }
 
+-- what yields a question alike to the member's fails neither test
+right_passes : (o : Option Query) (q : Query) → true ≡ yields_alike o q → (not (is_some o) ≡ false) × (yields_unlike o q ≡ false)
+unfolding is_some yields_unlike
+right_passes none q e = absurd (subst T e tt)
+right_passes (some p) q e = (refl, ap not (sym e))
+
 module _ (rules : List Rule) (table : List ℕ) (n k : ℕ) (before : RightBefore rules table n k) where
-  pub right_too : (b d : Bool) → k < n
-      → FaultsOf (yield rules (union_in table n) k (member_in table k).step) (member_in table k).query b d → b ≡ false → d ≡ false
-      → RightBefore rules table n (k + 1)
-  right_too b d h e f i = record {
-    fails = some_later (fails_at rules table n) k n (some_from (fails_at rules table n) 1 n) before.fails b h e.fails_is f;
-    unlike = some_later (unlike_at rules table n) k n (some_from (unlike_at rules table n) 1 n) before.unlike d h e.unlike_is i;
-  }
+  pub right_too : (b : Bool) → k < n → b ≡ yields_alike (yield rules (union_in table n) k (member_in table k).step) (member_in table k).query
+      → b ≡ true → RightBefore rules table n (k + 1)
+  right_too b h e t =
+      let passes =
+      right_passes (yield rules (union_in table n) k (member_in table k).step) (member_in table k).query (sym t ∙ e) in
+      record {
+        fails = some_later (fails_at rules table n) k n (some_from (fails_at rules table n) 1 n) before.fails false h (sym passes.0) refl;
+        unlike =
+            some_later (unlike_at rules table n) k n (some_from (unlike_at rules table n) 1 n) before.unlike false h (sym passes.1) refl;
+      }
 
 module _ (rules : List Rule) (table : List ℕ) (n k : ℕ) (q : Query) (before : RightBefore rules table n k) where
   abbrev nine_here : Bool
   nine_here = refuses9 rules q (union_in table n)
 
-  pub one_fails : (b d : Bool) → k < n
-      → FaultsOf (yield rules (union_in table n) k (member_in table k).step) (member_in table k).query b d → b ≡ true
-      → 8 ≡ number_of (first_refusal (eight_then rules q (union_in table n) nine_here))
-  unfolding first_refusal number_of
-  one_fails b d h e t =
-      let found : true ≡ refuses8 rules q (union_in table n) =
-      is_eight rules table n true q
-      (some_found (fails_at rules table n) k n (some_from (fails_at rules table n) 1 n) before.fails b h e.fails_is t) in
-      simp (sym found)
-
-  pub one_unlike : (r : ℕ) (b d : Bool) → k < n
-      → FaultsOf (yield rules (union_in table n) k (member_in table k).step) (member_in table k).query b d → d ≡ true
+  pub one_wrong : (r : ℕ) (b : Bool) → k < n
+      → b ≡ yields_alike (yield rules (union_in table n) k (member_in table k).step) (member_in table k).query → b ≡ false
       → ((p : Query) → r ≡ number_of (first_refusal (eight_then rules p (union_in table n) true)))
       → r ≡ number_of (first_refusal (eight_then rules q (union_in table n) nine_here))
-  one_unlike r b d h e t f =
-      let found : true ≡ nine_here =
-      is_nine rules table n true q
-      (some_found (unlike_at rules table n) k n (some_from (unlike_at rules table n) 1 n) before.unlike d h e.unlike_is t) in
-      f q ∙ ap (λ c. number_of (first_refusal (eight_then rules q (union_in table n) c))) found
+  unfolding is_some yields_unlike first_refusal number_of
+  one_wrong r b h e t f = by_result (yield rules (union_in table n) k (member_in table k).step) refl (sym e ∙ t)
+    where
+      by_result : (o : Option Query) → yield rules (union_in table n) k (member_in table k).step ≡ o
+          → yields_alike o (member_in table k).query ≡ false
+          → r ≡ number_of (first_refusal (eight_then rules q (union_in table n) nine_here))
+      by_result none d g =
+          let found : true ≡ refuses8 rules q (union_in table n) =
+          is_eight rules table n true q
+          (some_found (fails_at rules table n) k n (some_from (fails_at rules table n) 1 n) before.fails true h
+          (sym (ap (λ o. not (is_some o)) d)) refl) in
+          f q ∙ simp (sym found)
+      by_result (some p) d g =
+          let found : true ≡ nine_here =
+          is_nine rules table n true q
+          (some_found (unlike_at rules table n) k n (some_from (unlike_at rules table n) 1 n) before.unlike true h
+          (sym (ap (λ o. yields_unlike o (member_in table k).query) d ∙ ap not g)) refl) in
+          f q ∙ ap (λ c. number_of (first_refusal (eight_then rules q (union_in table n) c))) found
 
   pub neither : n ≤ k → 0 ≡ number_of (first_refusal (eight_then rules q (union_in table n) nine_here))
   unfolding first_refusal number_of
@@ -221,9 +225,8 @@ pub ruleset laws = (
   small_too,
   yields,
   fails,
-  nothing_unlike,
-  yields_alike,
-  yields_unlike_lem,
+  nothing_alike,
+  compared,
   rule_steps,
   no_rule,
   by_rule_lem,
@@ -236,7 +239,6 @@ pub ruleset laws = (
   it_is_nine,
   none_before,
   right_too,
-  one_fails,
-  one_unlike,
+  one_wrong,
   neither,
 )

@@ -1,12 +1,11 @@
 -- What the step beside a member does wrong: refusals 8 and 9.
-use Rattle.std.specs.Prelude.{◌≡◌, Bool, not}
-use Rattle.std.proofs.Math.Option.{Option}
-use Rattle.theory.specs.Lists.{is_some}
+use Rattle.std.specs.Prelude.{Bool, false}
+use Rattle.std.proofs.Math.Option.{Option, none, some}
 use Rattle.theory.specs.Syntax.{Query}
-use Rattle.theory.specs.Union.{yields_unlike}
+use Rattle.theory.specs.Renaming.{alike}
 pub use Rattle.theory.specs.Explaining.{step_from}
 
--- what the step beside a member yields is nothing (8); is a question that is not alike to the member's (9)
-pub record FaultsOf (yielded : Option Query) (q : Query) (fails unlike : Bool) : Type 0 where
-  pub fails_is : fails ≡ not (is_some yielded)
-  pub unlike_is : unlike ≡ yields_unlike yielded q
+-- what the step beside a member yields is a question, alike to the member's
+abbrev pub yields_alike : Option Query → Query → Bool
+yields_alike none q = false
+yields_alike (some r) q = alike r q

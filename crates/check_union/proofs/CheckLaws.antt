@@ -1,14 +1,48 @@
 -- The first refusal that applies decides.
 use mathlib.Core.Path.{◌≡◌, refl, sym, ◌∙◌}
-use Prim.Native.Nat.{ℕ}
+use Prim.Native.Nat.{ℕ, ◌≤◌}
 use native.Mathlib.Omega.{arith}
 use mathlib.Core.Bool.{Bool, true, false}
 use mathlib.Core.List.{List, [], ◌∷◌}
+use lib.Dec.{leb}
 use borrow.Author.Rules.{rules}
+use borrow.Author.Tests.{leb-true}
 use Rattle.theory.specs.Refusals.{first_refusal, number_of}
 use Rattle.theory.specs.Syntax.{Rule, Query, UCQ}
 use Rattle.theory.specs.Union.{refuses7, refuses8, refuses9, refuses10, refuses11, check}
+use Rattle.words.specs.declared.refusals.Refusal.{Refusal}
+use Rattle.words.specs.declared.refusals.Refusal.TheVariants.{RuleSheetLength, NoSuchRule, QuestionMalformed, AnswerVariableNowhere, AtomTwice}
+use Rattle.words.specs.declared.refusals.Refusal.TheVariants.{UnionMalformed, FirstMemberNotQuestion, StepDoesNotApply, StepGivesAnother, MembersAlike}
+use Rattle.words.specs.declared.refusals.Refusal.TheVariants.{UnionOpen, FactSheetLength, FactMalformed, ListTooShort, TooManyQuestions}
+use Rattle.words.specs.declared.refusals.Refusal.TheVariants.{SheetTooShort, PairMalformed, HelperAsRole, NoAnswer, StepsTooShort}
+use Rattle.words.specs.Refusals.{code}
 use Rattle.check_chains.specs.WalkLaws.{cleared}
+
+-- a refusal's number is not 0
+some_code : (r : Refusal) → leb 1 (code r) ≡ true
+some_code RuleSheetLength = refl
+some_code NoSuchRule = refl
+some_code QuestionMalformed = refl
+some_code AnswerVariableNowhere = refl
+some_code AtomTwice = refl
+some_code UnionMalformed = refl
+some_code FirstMemberNotQuestion = refl
+some_code StepDoesNotApply = refl
+some_code StepGivesAnother = refl
+some_code MembersAlike = refl
+some_code UnionOpen = refl
+some_code FactSheetLength = refl
+some_code FactMalformed = refl
+some_code ListTooShort = refl
+some_code TooManyQuestions = refl
+some_code SheetTooShort = refl
+some_code PairMalformed = refl
+some_code HelperAsRole = refl
+some_code NoAnswer = refl
+some_code StepsTooShort = refl
+
+pub is_refusal : (r : Refusal) → code r ≡ 0 → ⊥
+is_refusal r e = let l : 1 ≤ code r = leb-true 1 (code r) (some_code r) in omega arith
 
 -- 10 and 11
 abbrev last_two : List Rule → Query → UCQ → List (ℕ × Bool)
@@ -71,4 +105,4 @@ module _ (rules : List Rule) (q : Query) (union : UCQ) (a : Bool) (seven : (rs :
         later q ∙ later_decides (last_two rules q union) (refuses8 rules q union) (refuses9 rules q union) (sym (middle q) ∙ z)
         ∙ sym after_seven
 
-pub ruleset laws = (rules, cleared, gives_ten, gives_eleven, gives_none, gives_seven, gives_middle, gives_later)
+pub ruleset laws = (rules, cleared, is_refusal, gives_ten, gives_eleven, gives_none, gives_seven, gives_middle, gives_later)

@@ -1,26 +1,14 @@
 use Rattle.check_closed.proofs.ClosureLaws.{laws}
 use Rattle.check_closed.proofs.merges_lead_outside.Goals as goal
 
-pub overflow_add-j : goal.overflow_add-j
-overflow_add-j c = search laws
-
 pub loop-j-init : goal.loop-j-init
 loop-j-init c = search laws
-
-pub merge_step-requires : goal.merge_step-requires
-merge_step-requires c = search laws
 
 pub leads_outside-requires : goal.leads_outside-requires
 leads_outside-requires c = search laws
 
 pub returns-then-leads_outside : goal.returns-then-leads_outside
 returns-then-leads_outside c = search laws
-
-pub overflow_add-j-in-loop-j : goal.overflow_add-j-in-loop-j
-overflow_add-j-in-loop-j c = search laws
-
-pub loop-j-smaller : goal.loop-j-smaller
-loop-j-smaller c = search laws
 
 pub loop-j-preserved : goal.loop-j-preserved
 loop-j-preserved c = search laws

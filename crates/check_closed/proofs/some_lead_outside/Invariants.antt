@@ -1,14 +1,13 @@
 use mathlib.Core.Path.{◌≡◌}
-use Prim.Native.Nat.{◌-◌, ◌≤◌}
+use lib.ListN.{length}
 use Rattle.theory.specs.Laws.Scans.{some_from}
-use Rattle.words.specs.Words.{rules_in}
+use Rattle.check_closed.specs.Rules.{rules_of}
 use Rattle.check_closed.proofs.ClosureLaws.{member_out}
 use Rattle.check_closed.proofs.some_lead_outside.Given as goal
 
 abbrev pub invariant-loop-m : goal.invariant-loop-m
 invariant-loop-m l =
-    (l.m ≤ l.n) × (some_from (member_out (rules_in l.rules l.count) l.table l.n) l.m l.n
-    ≡ some_from (member_out (rules_in l.rules l.count) l.table l.n) 0 l.n)
-
-abbrev pub decreases-loop-m : goal.decreases-loop-m
-decreases-loop-m l = l.n - l.m
+    some_from (member_out (rules_of l.rules) l.members.table.now (length l.members.keys.words.now)) l.m
+    (length l.members.keys.words.now)
+    ≡ some_from (member_out (rules_of l.rules) l.members.table.now (length l.members.keys.words.now)) 0
+    (length l.members.keys.words.now)

@@ -1,32 +1,18 @@
-use Rattle.check_distinct.proofs.KeyLaws.{laws}
+use native.Mathlib.Omega.{arith}
+use Rattle.check_chains.specs.WalkLaws.{walk_at, walk_found}
+use Rattle.check_distinct.proofs.KeyLaws.{chain_laws}
 use Rattle.check_distinct.proofs.alike_from.Goals as goal
 
-pub next_with-j-requires : goal.next_with-j-requires
-next_with-j-requires c = search laws
+pub loop-at-init : goal.loop-at-init
+loop-at-init c = search chain_laws
 
-pub loop-j-init : goal.loop-j-init
-loop-j-init c = search laws
+pub returns-then-j-from : goal.returns-then-j-from
+returns-then-j-from c = search chain_laws
 
-pub load-requires : goal.load-requires
-load-requires c = search laws
-
-pub alike-requires : goal.alike-requires
-alike-requires c = search laws
-
-pub returns-then-alike : goal.returns-then-alike
-returns-then-alike c = search laws
-
-pub overflow_add-j : goal.overflow_add-j
-overflow_add-j c = search laws
-
-pub next_with-j-requires-in-loop-j : goal.next_with-j-requires-in-loop-j
-next_with-j-requires-in-loop-j c = search laws
-
-pub loop-j-smaller : goal.loop-j-smaller
-loop-j-smaller c = search laws
-
-pub loop-j-preserved : goal.loop-j-preserved
-loop-j-preserved c = search laws
+pub returns-then-alike_at : goal.returns-then-alike_at
+returns-then-alike_at c =
+    walk_found _ _ _ _ _ _ c.loop-at.invariant.1 c.in-Some.j (walk_at _ _ _ _ _ c.loop-at.invariant.0 _ c.in-Some.is) _ (omega arith)
+    c.alike_at.ensures c.if-alike_at.true
 
 pub returns : goal.returns
-returns c = search laws
+returns c = search chain_laws

@@ -1,11 +1,10 @@
 use mathlib.Core.Path.{◌≡◌}
-use Prim.Native.Nat.{◌-◌, ◌≤◌}
+use lib.ListN.{length}
 use Rattle.theory.specs.Laws.Scans.{some_from}
 use Rattle.check_distinct.proofs.KeyLaws.{twin_at}
 use Rattle.check_distinct.proofs.refuses10.Given as goal
 
 abbrev pub invariant-loop-i : goal.invariant-loop-i
-invariant-loop-i l = (l.i ≤ l.n) × (some_from (twin_at l.table l.n) l.i l.n ≡ some_from (twin_at l.table l.n) 0 l.n)
-
-abbrev pub decreases-loop-i : goal.decreases-loop-i
-decreases-loop-i l = l.n - l.i
+invariant-loop-i l =
+    some_from (twin_at l.members.table.now (length l.members.keys.words.now)) l.i (length l.members.keys.words.now)
+    ≡ some_from (twin_at l.members.table.now (length l.members.keys.words.now)) 0 (length l.members.keys.words.now)

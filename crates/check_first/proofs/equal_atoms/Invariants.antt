@@ -8,8 +8,4 @@ use Rattle.check_first.proofs.equal_atoms.Given as goal
 
 abbrev pub invariant-loop-i : goal.invariant-loop-i
 invariant-loop-i l =
-    (l.i ≤ l.n)
-    × (all_from (same_at same_atom word_atom l.a l.b) l.i l.n ≡ all_from (same_at same_atom word_atom l.a l.b) 0 l.n)
-
-abbrev pub decreases-loop-i : goal.decreases-loop-i
-decreases-loop-i l = l.n - l.i
+    all_from (same_at same_atom word_atom l.a l.b) l.i l.n ≡ all_from (same_at same_atom word_atom l.a l.b) 0 l.n

@@ -7,12 +7,6 @@ returns-then-p-q c = search laws
 pub returns-then-p-q-2 : goal.returns-then-p-q-2
 returns-then-p-q-2 c = search laws
 
-pub equal_terms-requires : goal.equal_terms-requires
-equal_terms-requires c = search laws
-
-pub equal_atoms-requires : goal.equal_atoms-requires
-equal_atoms-requires c = search laws
-
 pub returns-then-equal_terms : goal.returns-then-equal_terms
 returns-then-equal_terms c = search laws
 

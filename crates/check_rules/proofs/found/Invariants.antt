@@ -1,7 +1,5 @@
+use Rattle.check_chains.specs.Chains.{after}
 use Rattle.check_rules.proofs.found.Given as goal
 
-abbrev pub invariant-loop-at : goal.invariant-loop-at
-invariant-loop-at l = Unit {0}
-
 abbrev pub decreases-loop-at : goal.decreases-loop-at
-decreases-loop-at l = l.at
+decreases-loop-at l = after l.at

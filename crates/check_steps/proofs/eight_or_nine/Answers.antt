@@ -1,9 +1,6 @@
 use Rattle.check_steps.proofs.WrittenLaws.{laws}
 use Rattle.check_steps.proofs.eight_or_nine.Goals as goal
 
-pub refuses8-requires : goal.refuses8-requires
-refuses8-requires c = search laws
-
 pub returns-then-refuses8 : goal.returns-then-refuses8
 returns-then-refuses8 c = search laws
 

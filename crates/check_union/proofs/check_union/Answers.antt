@@ -1,23 +1,15 @@
-use Rattle.check_union.proofs.CheckLaws.{laws}
+use mathlib.Core.Path.{refl}
+use Rattle.std.proofs.lemmas.Result.{err_from_is_err_and}
+use Rattle.check_union.proofs.CheckLaws.{laws, gives_later}
 use Rattle.check_union.proofs.check_union.Goals as goal
-
-pub refuses7-requires : goal.refuses7-requires
-refuses7-requires c = search laws
 
 pub returns-then-refuses7 : goal.returns-then-refuses7
 returns-then-refuses7 c = search laws
 
-pub check_written-number-requires : goal.check_written-number-requires
-check_written-number-requires c = search laws
-
-pub returns-then-number-ne0 : goal.returns-then-number-ne0
-returns-then-number-ne0 c = search laws
-
-pub check_alike-requires : goal.check_alike-requires
-check_alike-requires c = search laws
-
-pub shape_of-keys : goal.shape_of-keys
-shape_of-keys c = search laws
+pub returns-in_err-check_written : goal.returns-in_err-check_written
+returns-in_err-check_written c =
+    let p = err_from_is_err_and c.from_residual.result c.from_residual.ensures.1 in rw (p.1, p.2) (search (laws, c.in_err-check_written.ensures))
 
 pub returns : goal.returns
-returns c = search laws
+returns c =
+    gives_later _ _ _ _ c.refuses7.ensures 0 c.in_ok-check_written.ensures c.if-refuses7.false _ refl c.check_alike.ensures

@@ -1,14 +1,8 @@
 use Rattle.check_union.proofs.CheckLaws.{laws}
 use Rattle.check_union.proofs.decide_alike.Goals as goal
 
-pub refuses10-requires : goal.refuses10-requires
-refuses10-requires c = search laws
-
 pub returns-then-refuses10 : goal.returns-then-refuses10
 returns-then-refuses10 c = search laws
-
-pub refuses11-requires : goal.refuses11-requires
-refuses11-requires c = search laws
 
 pub returns-then-refuses11 : goal.returns-then-refuses11
 returns-then-refuses11 c = search laws

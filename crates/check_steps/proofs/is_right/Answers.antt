@@ -1,8 +1,5 @@
 use Rattle.check_steps.proofs.WrittenLaws.{laws}
-use Rattle.check_steps.proofs.fails_at.Goals as goal
-
-pub yielded-r-requires : goal.yielded-r-requires
-yielded-r-requires c = search laws
+use Rattle.check_steps.proofs.is_right.Goals as goal
 
 pub returns-then-r : goal.returns-then-r
 returns-then-r c = search laws
