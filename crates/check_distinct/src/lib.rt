@@ -73,7 +73,12 @@ pub fn refuses10(members: &Members) -> bool
     ensures { (rules : List Rule) (q : Query) → result ≡ refuses_ten rules q (union_of members.now) }
 {
     for i in 0..members.count() {
-        if alike_from(load(members.table, i), members.keys.words[i], members, i + 1) {
+        if alike_from(
+            load(members.table, i),
+            members.keys.words[i],
+            members,
+            i + 1,
+        ) {
             return true;
         }
     }

@@ -25,17 +25,19 @@ pub fn read_members(
     ensures members { MembersRead partners.now (rules_in rules.now (length rules.now)) (query_of question) question.terms
         union.now table.new (number_in result) (count_in result) }
 {
-    let members = read_union(union, partners, question.terms, table);
-    if members.number != 0 {
-        return Err(Refusal::UnionMalformed);
-    }
+    let count = read_union(union, partners, question.terms, table)?;
     let mut keys = [0u64; MOST_MEMBERS];
-    check_union(rules, question, table, &mut keys[..members.count])?;
-    Ok(members.count)
+    check_union(rules, question, table, &mut keys[..count])?;
+    Ok(count)
 }
 
 // The same where the members are not needed.
-pub fn check_members(rules: &[u64], question: QueryWords, union: &[u8], partners: &[u16]) -> Result<(), Refusal>
+pub fn check_members(
+    rules: &[u64],
+    question: QueryWords,
+    union: &[u8],
+    partners: &[u16],
+) -> Result<(), Refusal>
     requires { Small question }
     ensures { number_in result ≡ union_number partners.now (rules_in rules.now (length rules.now)) (query_of question) question.terms
         union.now }

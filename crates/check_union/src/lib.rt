@@ -65,7 +65,12 @@ fn check_alike(rules: &[u64], table: &[u64], keys: &mut [u64]) -> Result<(), Ref
 }
 
 // The first of refusals 7 to 11 that applies to the union, if any. The list is lent for the members' keys, one for each.
-pub fn check_union(rules: &[u64], question: QueryWords, table: &[u64], keys: &mut [u64]) -> Result<(), Refusal>
+pub fn check_union(
+    rules: &[u64],
+    question: QueryWords,
+    table: &[u64],
+    keys: &mut [u64],
+) -> Result<(), Refusal>
     requires { Small question × Rows table.now (length keys.old) }
     ensures { number_in result
         ≡ number_of (check (rules_in rules.now (length rules.now)) (query_of question) (union_in table.now (length keys.old))) }
