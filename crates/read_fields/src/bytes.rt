@@ -1,5 +1,5 @@
 // Numbers in bytes, the most significant first.
-ghost use Rattle.std.specs.Prelude.{◌≡◌, ◌+◌, ◌*◌, ◌≤◌, ◌<◌, length};
+ghost use Rattle.std.specs.Prelude.{◌≡◌, ◌+◌, ◌≤◌, ◌<◌, length};
 ghost use Rattle.words.specs.Limits.{sheet_record_bound, rule_bound};
 ghost use Rattle.sheets.specs.Bits.{number_at};
 

@@ -1,5 +1,5 @@
 // Terms and atoms of a sheet: which are sound, and their words as read.
-ghost use Rattle.std.specs.Prelude.{◌≡◌, ◌+◌, ◌*◌, ◌<◌, eqb};
+ghost use Rattle.std.specs.Prelude.{◌≡◌, ◌<◌, eqb};
 ghost use Rattle.theory.specs.Lists.{pick};
 ghost use Rattle.theory.specs.Syntax.{role};
 ghost use Rattle.words.specs.Records.{term_of, atom_kind, atom_second, atom_of};

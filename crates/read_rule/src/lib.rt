@@ -3,7 +3,7 @@
 
 pub mod pair;
 
-ghost use Rattle.std.specs.Prelude.{◌≡◌, ◌<◌, true, not, ◌&&◌, ◌||◌, eqb, ltb};
+ghost use Rattle.std.specs.Prelude.{◌≡◌, ◌<◌, true, ◌&&◌, ◌||◌, eqb, ltb};
 ghost use Rattle.std.specs.Bool.{xor};
 ghost use Rattle.theory.specs.Lists.{pick};
 ghost use Rattle.words.specs.Limits.{name_bound, rule_bound};

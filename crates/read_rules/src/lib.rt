@@ -1,17 +1,15 @@
 // A rule sheet: its records judged, and its rules as read in a table.
 #![tactic(auto)]
 
-ghost use Rattle.std.specs.Prelude.{◌≡◌, ◌+◌, ◌-◌, ◌/◌, ◌<◌, ◌≤◌, true, false, length, eqb};
-ghost use Rattle.theory.specs.Lists.{pick, all};
+ghost use Rattle.std.specs.Prelude.{◌≡◌, ◌/◌, ◌≤◌, true, false, length};
+ghost use Rattle.theory.specs.Lists.{all};
 ghost use Rattle.words.specs.Limits.{sheet_width, most_rules, rule_bytes, most_rule_bytes};
-ghost use Rattle.words.specs.Records.{rule_kind};
 ghost use Rattle.words.specs.Refusals.{number_in};
 ghost use Rattle.words.specs.Words.{rules_in};
 ghost use Rattle.sheets.specs.Format.{rule_records, pairs_in};
 ghost use Rattle.sheets.specs.Reading.{rules_as_read};
 ghost use Rattle.sheets.specs.Tests.{passes2, pairs_sound};
-ghost use Rattle.sheets.specs.Laws.RecordLoops.{Nth};
-ghost use Rattle.read_rules.specs.Filling.{FewRules, FillingRules};
+ghost use Rattle.read_rules.specs.Filling.{FewRules};
 ghost use Rattle.read_rules.specs.RuleWords.{RulesRead, HelpersRead, PairedRead, rule_count, helper_count, clash_in};
 
 use read_fields::bytes::four;
@@ -71,43 +69,6 @@ fn count_pairs(s: &[u8]) -> usize
     pairs
 }
 
-// Puts the three rules of the pair that begins at record i, in x, into the table.
-fn take_pair(
-    s: &[u8],
-    partners: &[u16],
-    x: u64,
-    i: usize,
-    count: usize,
-    helper: u64,
-    table: &mut [u64],
-)
-    requires { FillingRules partners.now s.now table.old i count helper × (i < length s.now / rule_bytes)
-        × Nth rule_bytes s.now 0 i x × (rule_kind x ≡ 3) }
-    ensures { FillingRules partners.now s.now table.new (i + 2) (count + 3) (helper - 1)
-        × (length table.new ≡ length table.old) }
-{
-    let y = four(s, RULE_BYTES * (i + 1));
-    put_pair(x, y, helper, partners, count, table);
-}
-
-// Puts the rule of record i, in x, into the table.
-fn take_one(
-    s: &[u8],
-    partners: &[u16],
-    x: u64,
-    i: usize,
-    count: usize,
-    helper: u64,
-    table: &mut [u64],
-)
-    requires { FillingRules partners.now s.now table.old i count helper × (i < length s.now / rule_bytes)
-        × Nth rule_bytes s.now 0 i x × (rule_kind x ≡ 3 → ⊥) }
-    ensures { FillingRules partners.now s.now table.new (i + 1) (count + 1) helper
-        × (length table.new ≡ length table.old) }
-{
-    table[count] = rule_as_read(x, partners);
-}
-
 // The sheet's rules as read, at the front of the table: a pair takes two records and three places, and helpers are numbered down.
 fn fill_rules(s: &[u8], partners: &[u16], table: &mut [u64])
     requires { FewRules partners.now s.now × (most_rules ≤ length table.old)
@@ -123,12 +84,13 @@ fn fill_rules(s: &[u8], partners: &[u16], table: &mut [u64])
     while i < n {
         let x = four(s, RULE_BYTES * i);
         if rule_kind(x) == 3 {
-            take_pair(s, partners, x, i, count, helper, table);
+            let y = four(s, RULE_BYTES * (i + 1));
+            put_pair(x, y, helper, partners, count, table);
             helper -= 1;
             count += 3;
             i += 2;
         } else {
-            take_one(s, partners, x, i, count, helper, table);
+            table[count] = rule_as_read(x, partners);
             count += 1;
             i += 1;
         }
