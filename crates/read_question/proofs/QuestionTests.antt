@@ -5,22 +5,23 @@ use native.Mathlib.Omega.{arith}
 use mathlib.Core.Bool.{Bool, true, false, not, ◌||◌}
 use mathlib.Core.List.{List, map}
 use lib.Dec.{eqb}
-use lib.ListN.{length, get_or, take}
+use lib.ListN.{length, get_or, take, drop, length-take, length-drop, drop_of_length-le}
+use lib.Seq.{take-length, get_or-take, drop-cons}
+use native.Mathlib.Numerals.{add-one}
 use borrow.Author.Rules.{rules}
 use borrow.Author.Tests.{eq-eqb, ne_eqb}
-use Rattle.theory.specs.Lists.{any, numbers}
+use Rattle.theory.specs.Lists.{any, all}
 use Rattle.theory.specs.Refusals.{first_refusal}
 use Rattle.theory.specs.Syntax.{Term, Atom, args, places, same_term, same_atom}
-use Rattle.theory.specs.Laws.Lists.{any_map}
 use Rattle.theory.proofs.Laws.Spellings.{same_atom_exchanged}
-use Rattle.theory.specs.Laws.Scans.{some_from, all_from, test_at, scans, rest_cons, rest_nil, all_left, some_next, some_past}
-use Rattle.theory.specs.Laws.Scans.{records_listed, some_record, all_records}
+use Rattle.theory.specs.Laws.Scans.{some_from, all_from, test_at, scans}
+use Rattle.theory.specs.Laws.Scans.{some_record, all_records}
 use Rattle.words.specs.Laws.LowVariables.{word_below}
 use Rattle.words.specs.Records.{term_of}
-use Rattle.words.specs.Words.{query_of, word_term, word_atom}
+use Rattle.words.specs.Words.{query_of, TermWords, word_term, word_atom}
 use Rattle.words.specs.Laws.Scans.{any_places}
 use Rattle.words.specs.declared.QueryWords.{QueryWords}
-use Rattle.words.specs.Limits.{sheet_width, word_object_bound}
+use Rattle.words.specs.Limits.{sheet_width, word_object_bound, word_term_bound}
 use Rattle.sheets.specs.Format.{question_length}
 use Rattle.sheets.specs.Refusals.{number_of, question_refusals}
 use Rattle.sheets.specs.Reading.{question_as_read}
@@ -33,11 +34,12 @@ use Rattle.read_question.specs.QuestionWords.{ReadFrom, Judged, QuestionRead}
 abbrev pub stands_at : ℕ → List ℕ → ℕ → Bool
 stands_at t = test_at (λ a. any (same_term (word_term t)) (args a)) word_atom
 
-pub stands_somewhere : (t n : ℕ) (atoms : List ℕ) (b : Bool) → length atoms ≡ 8 → n ≤ 8 → b ≡ some_from (stands_at t atoms) 0 n
-    → b ≡ any (same_term (word_term t)) (places (map word_atom (take n atoms)))
-stands_somewhere t n atoms b l g e =
-    e ∙ some_record word_atom atoms n (omega arith) (λ a. any (same_term (word_term t)) (args a))
-    ∙ any_places (same_term (word_term t)) (map word_atom (take n atoms))
+pub stands_somewhere : (t : ℕ) (atoms : List ℕ) (b : Bool) → b ≡ some_from (stands_at t atoms) 0 (length atoms)
+    → b ≡ any (same_term (word_term t)) (places (map word_atom atoms))
+stands_somewhere t atoms b e =
+    e ∙ some_record word_atom atoms (length atoms) (omega arith) (λ a. any (same_term (word_term t)) (args a))
+    ∙ ap (λ l. any (λ a. any (same_term (word_term t)) (args a)) (map word_atom l)) (take-length atoms)
+    ∙ any_places (same_term (word_term t)) (map word_atom atoms)
 
 -- a variable is covered where it stands, an object always
 module _ (atoms : List (Atom Term)) (t : ℕ) (v : Bool) (e : v ≡ eqb (t / word_object_bound) 0) where
@@ -50,46 +52,65 @@ module _ (atoms : List (Atom Term)) (t : ℕ) (v : Bool) (e : v ≡ eqb (t / wor
   object_covered is = rw (← e, is)
 
 -- whether the answer term at place k is covered
-abbrev pub covered_at : List ℕ → List ℕ → ℕ → ℕ → Bool
-covered_at answers atoms size = test_at (covered (map word_atom (take size atoms))) word_term answers
+abbrev pub covered_at : List ℕ → List ℕ → ℕ → Bool
+covered_at answers atoms = test_at (covered (map word_atom atoms)) word_term answers
 
-module _ (q : QueryWords) (l : length q.answers ≡ 4) (g : q.terms ≤ 4) where
-  tested4 : not (all_from (covered_at q.answers q.atoms q.size) 0 q.terms) ≡ refuses4 (query_of q)
+-- the words of answer terms that are there
+pub term_below : (words : List ℕ) (n i : ℕ) → TermWords words → i < length (take n words) → get_or (take n words) i 0 < word_term_bound
+term_below words n i h l = let k : i < n = omega (arith, length-take n words) in rw (get_or-take n words i 0 k) (h i)
+
+module _ (q : QueryWords) (answers atoms : List ℕ) (a : answers ≡ take q.terms q.answers) (b : atoms ≡ take q.size q.atoms) where
+  tested4 : not (all_from (covered_at answers atoms) 0 (length answers)) ≡ refuses4 (query_of q)
   unfolding refuses4 query_of
-  tested4 = ap not (all_records word_term q.answers q.terms (omega arith) (covered (map word_atom (take q.size q.atoms))))
+  tested4 =
+      ap not (all_records word_term answers (length answers) (omega arith) (covered (map word_atom atoms))
+      ∙ ap (λ ws. all (covered (map word_atom atoms)) (map word_term ws)) (take-length answers)
+      ∙ ap₂ (λ ws vs. all (covered (map word_atom vs)) (map word_term ws)) a b)
 
-  pub refused4 : false ≡ all_from (covered_at q.answers q.atoms q.size) 0 q.terms → true ≡ refuses4 (query_of q)
+  pub refused4 : false ≡ all_from (covered_at answers atoms) 0 (length answers) → true ≡ refuses4 (query_of q)
   refused4 e = ap not e ∙ tested4
 
-  pub passed4 : true ≡ all_from (covered_at q.answers q.atoms q.size) 0 q.terms → false ≡ refuses4 (query_of q)
+  pub passed4 : true ≡ all_from (covered_at answers atoms) 0 (length answers) → false ≡ refuses4 (query_of q)
   passed4 e = ap not e ∙ tested4
 
 -- ---- refusal 5
 
--- whether the atom at place i stands again
-abbrev pub again_at : List ℕ → ℕ → ℕ → Bool
-again_at atoms n i = some_from (test_at (same_atom (word_atom (get_or atoms i 0))) word_atom atoms) (i + 1) n
+-- whether the atom at place k is the one in a
+abbrev pub same_at : ℕ → List ℕ → ℕ → Bool
+same_at a = test_at (same_atom (word_atom a)) word_atom
 
-repeats_from : (atoms : List ℕ) (n k i : ℕ) → i + k ≡ n
-    → repeats (map (λ j. word_atom (get_or atoms j 0)) (numbers i (n - i))) ≡ some_from (again_at atoms n) i n
-unfolding repeats
-repeats_from atoms n zero i e =
-    ap (λ js. repeats (map (λ j. word_atom (get_or atoms j 0)) js)) (rest_nil i n (omega arith))
-    ∙ sym (some_past (again_at atoms n) i n (omega arith))
-repeats_from atoms n (suc k) i e =
-    ap (λ js. repeats (map (λ j. word_atom (get_or atoms j 0)) js)) (rest_cons i n (omega arith))
-    ∙ ap₂ ◌||◌
-    (any_map (same_atom (word_atom (get_or atoms i 0))) (λ j. word_atom (get_or atoms j 0)) (numbers (i + 1) (n - (i + 1))))
-    (repeats_from atoms n k (i + 1) (omega arith))
-    ∙ sym (some_next (again_at atoms n) i n (omega arith))
+pub among : (a : ℕ) (atoms : List ℕ) (b : Bool) → b ≡ some_from (same_at a atoms) 0 (length atoms)
+    → b ≡ any (same_atom (word_atom a)) (map word_atom atoms)
+among a atoms b e =
+    e ∙ some_record word_atom atoms (length atoms) (omega arith) (same_atom (word_atom a))
+    ∙ ap (λ l. any (same_atom (word_atom a)) (map word_atom l)) (take-length atoms)
 
-pub tested5 : (q : QueryWords) (b : Bool) → length q.atoms ≡ 8 → q.size ≤ 8 → b ≡ some_from (again_at q.atoms q.size) 0 q.size
-    → b ≡ refuses5 (query_of q)
+module _ (atoms : List ℕ) (i : ℕ) (r : Bool) (so_far : repeats (map word_atom (drop i atoms)) ≡ r) where
+  next : i < length atoms
+      → (any (same_atom (word_atom (get_or atoms i 0))) (map word_atom (drop (i + 1) atoms)) || repeats (map word_atom (drop (i + 1) atoms))) ≡ r
+  unfolding repeats
+  next h = rw add-one (sym (ap (λ l. repeats (map word_atom l)) (drop-cons atoms i 0 h)) ∙ so_far)
+
+  -- the atoms after place i, as a slice of them
+  module _ (h : i < length atoms) (b : Bool)
+      (e : b ≡ any (same_atom (word_atom (get_or atoms i 0))) (map word_atom (take (length atoms - (i + 1)) (drop (i + 1) atoms)))) where
+    found : b ≡ any (same_atom (word_atom (get_or atoms i 0))) (map word_atom (drop (i + 1) atoms))
+    found = e ∙ ap (λ l. any (same_atom (word_atom (get_or atoms i 0))) (map word_atom l))
+        (ap (λ n. take n (drop (i + 1) atoms)) (sym (length-drop (i + 1) atoms)) ∙ take-length (drop (i + 1) atoms))
+
+    pub stands_again : b ≡ true → true ≡ r
+    stands_again t = let n = next h in rw (sym found ∙ t) at n
+
+    pub no_more : b ≡ false → repeats (map word_atom (drop (i + 1) atoms)) ≡ r
+    no_more f = let n = next h in rw (sym found ∙ f) at n
+
+  pub none_again : length atoms ≤ i → false ≡ r
+  unfolding repeats
+  none_again h = sym (ap (λ l. repeats (map word_atom l)) (drop_of_length-le atoms h)) ∙ so_far
+
+pub tested5 : (q : QueryWords) (b : Bool) → b ≡ repeats (map word_atom (take q.size q.atoms)) → b ≡ refuses5 (query_of q)
 unfolding refuses5 query_of
-tested5 q b l g e =
-    e ∙ sym (repeats_from q.atoms q.size q.size 0 (omega arith))
-    ∙ ap (λ js. repeats (map (λ j. word_atom (get_or q.atoms j 0)) js)) (all_left q.size)
-    ∙ ap repeats (sym (records_listed word_atom q.atoms q.size (omega arith)))
+tested5 q b e = e
 
 -- ---- the first refusal
 
@@ -151,6 +172,11 @@ pub ruleset laws = (
   word_below,
   refused4,
   passed4,
+  term_below,
+  among,
+  stands_again,
+  no_more,
+  none_again,
   tested5,
   meets4,
   meets5,

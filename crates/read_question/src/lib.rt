@@ -4,7 +4,6 @@
 ghost use Rattle.std.specs.Prelude.{◌≡◌, true, ◌&&◌, map, ◌+◌, ◌*◌, ◌≤◌, ◌<◌, length, take};
 ghost use Rattle.theory.specs.Lists.{any, all};
 ghost use Rattle.theory.specs.Syntax.{places, same_term, same_atom};
-ghost use Rattle.theory.specs.Laws.Scans.{some_from, test_at};
 ghost use Rattle.words.specs.Limits.{sheet_width, word_term_bound, most_terms, most_atoms, answer_bytes, record_bytes};
 ghost use Rattle.words.specs.Records.{term_of, atom_of};
 ghost use Rattle.words.specs.Refusals.{number_in};
@@ -141,25 +140,25 @@ pub fn read_query(s: &[u8], at: usize, partners: &[u16]) -> QueryWords
     }
 }
 
-// Whether the term stands in one of the first n atoms.
-fn stands_in(atoms: [u64; MOST_ATOMS], n: usize, t: u64) -> bool
-    requires { (n ≤ most_atoms) × (t < word_term_bound) }
-    ensures { result ≡ any (same_term (word_term t)) (places (map word_atom (take n atoms))) }
+// Whether the term stands in one of the atoms.
+fn stands_in(atoms: &[u64], t: u64) -> bool
+    requires { t < word_term_bound }
+    ensures { result ≡ any (same_term (word_term t)) (places (map word_atom atoms.now)) }
 {
-    for i in 0..n {
-        if stands(atoms[i], t) {
+    for a in atoms {
+        if stands(*a, t) {
             return true;
         }
     }
     false
 }
 
-// Whether the term is an object or stands in one of the first n atoms.
-fn covered(atoms: [u64; MOST_ATOMS], n: usize, t: u64) -> bool
-    requires { (n ≤ most_atoms) × (t < word_term_bound) }
-    ensures { result ≡ covered_by (map word_atom (take n atoms)) (word_term t) }
+// Whether the term is an object or stands in one of the atoms.
+fn covered(atoms: &[u64], t: u64) -> bool
+    requires { t < word_term_bound }
+    ensures { result ≡ covered_by (map word_atom atoms.now) (word_term t) }
 {
-    !is_variable(t) || stands_in(atoms, n, t)
+    !is_variable(t) || stands_in(atoms, t)
 }
 
 // Refusal 4 on a question in words.
@@ -167,23 +166,21 @@ pub fn missing_answer(q: QueryWords) -> bool
     requires { (q.terms ≤ most_terms) × (q.size ≤ most_atoms) × TermWords q.answers }
     ensures { result ≡ refuses4 (query_of q) }
 {
-    let answers = q.answers;
-    let atoms = q.atoms;
-    for i in 0..q.terms {
-        if !covered(atoms, q.size, answers[i]) {
+    let atoms = &q.atoms[..q.size];
+    for t in &q.answers[..q.terms] {
+        if !covered(atoms, *t) {
             return true;
         }
     }
     false
 }
 
-// Whether the atom stands among those from index `from` to below n.
-fn stands_again(atoms: [u64; MOST_ATOMS], from: usize, n: usize, a: u64) -> bool
-    requires { (from ≤ n) × (n ≤ most_atoms) }
-    ensures { result ≡ some_from (test_at (same_atom (word_atom a)) word_atom atoms) from n }
+// Whether the atom is one of these.
+fn stands_among(atoms: &[u64], a: u64) -> bool
+    ensures { result ≡ any (same_atom (word_atom a)) (map word_atom atoms.now) }
 {
-    for i in from..n {
-        if same_atom(a, atoms[i]) {
+    for b in atoms {
+        if same_atom(a, *b) {
             return true;
         }
     }
@@ -195,10 +192,9 @@ pub fn repeated_atom(q: QueryWords) -> bool
     requires { q.size ≤ most_atoms }
     ensures { result ≡ refuses5 (query_of q) }
 {
-    let atoms = q.atoms;
-    let n = q.size;
-    for i in 0..n {
-        if stands_again(atoms, i + 1, n, atoms[i]) {
+    let atoms = &q.atoms[..q.size];
+    for (i, a) in atoms.iter().enumerate() {
+        if stands_among(&atoms[i + 1..], *a) {
             return true;
         }
     }
