@@ -1,19 +1,21 @@
 -- Roles compared with the helpers in use: one role, the roles of a record, of an atom, of a fact, and loops over these.
 use mathlib.Core.Path.{◌≡◌, refl, sym, ap, ap₂, ◌∙◌, subst}
-use Prim.Native.Nat.{ℕ, ◌+◌, ◌*◌, ◌/◌, ◌≤◌, ◌<◌}
+use Prim.Native.Nat.{ℕ, ◌+◌, ◌-◌, ◌*◌, ◌/◌, ◌≤◌, ◌<◌}
 use native.Mathlib.Nat.{zero-add}
+use native.Mathlib.Decide.{dec_lt}
 use native.Mathlib.Omega.{arith}
 use mathlib.Core.Bool.{Bool, true, false, ◌&&◌, ◌||◌, and-true, or-false}
 use mathlib.Core.List.{List, [], ◌∷◌, map}
 use lib.Dec.{T, eqb, ltb}
 use lib.ListN.{length, take}
+use Rattle.std.specs.List.{list_any}
 use borrow.Author.Rules.{rules}
-use borrow.Author.Tests.{eq-eqb, ne_eqb, lt-ltb}
+use borrow.Author.Tests.{eq-eqb, ne_eqb, lt-ltb, le-ltb}
 use Rattle.theory.specs.Lists.{pick, any, all, numbers}
 use Rattle.theory.specs.Syntax.{Atom, role, has, has_inverse}
 use Rattle.theory.specs.Qualified.{roles_of_basic, roles_of_atom, roles_of_rules, roles_of_atoms}
 use Rattle.theory.specs.Laws.Lists.{map_agree}
-use Rattle.theory.specs.Laws.Scans.{some_from, some_place, some_record, test_at, scans}
+use Rattle.theory.specs.Laws.Scans.{some_from, some_place, scans}
 use Rattle.words.specs.Limits.{sheet_width, name_bound, rule_bytes}
 use Rattle.words.specs.Records.{rule_kind, left_form, left_name, right_form, right_name, basic_of, atom_of, fact_of, fact_kind, fact_name}
 use Rattle.words.specs.Words.{word_atom, word_fact, word_kind, word_name, query_of, Small, facts_in}
@@ -29,9 +31,15 @@ use Rattle.read_helpers.specs.InUseLaws.{clashing_both, clashing_flat, sheet_rol
 
 -- ---- one role
 
-pub in_use : (P k : ℕ) (r : Bool) → P < name_bound → r ≡ ltb 4095 (P + k) → r ≡ is_helper k P
+pub in_use : (P k : ℕ) (r : Bool) → P < name_bound → r ≡ ltb (4095 - P) k → r ≡ is_helper k P
 unfolding is_helper
-in_use P k r l e = e ∙ sym (and-true (ltb 4095 (P + k))) ∙ ap (λ b. ltb 4095 (P + k) && b) (sym (lt-ltb P name_bound l))
+in_use P k r l e = e ∙ same ∙ sym (and-true (ltb 4095 (P + k))) ∙ ap (λ b. ltb 4095 (P + k) && b) (sym (lt-ltb P name_bound l))
+  where
+    same : ltb (4095 - P) k ≡ ltb 4095 (P + k)
+    same = elim (dec_lt (4095 - P) k) [
+      | yes h ↦ lt-ltb (4095 - P) k h ∙ sym (lt-ltb 4095 (P + k) (omega arith))
+      | no h ↦ le-ltb (4095 - P) k (omega arith) ∙ sym (le-ltb 4095 (P + k) (omega arith))
+    ]
 
 one_role : (k P : ℕ) → clashing k (P ∷ []) ≡ is_helper k P
 unfolding clashing any
@@ -170,40 +178,37 @@ module _ (p : List ℕ) (k : ℕ) (s : List ℕ) where
 
 pub ruleset rules_laws = (rules, scans, record_here, rules_scanned)
 
--- whether some word of a table has one, by what a word says
-abbrev pub word_at : {X : Type 0} → (ℕ → Atom X) → ℕ → List ℕ → ℕ → Bool
-word_at of k = test_at (λ a. clashing k (roles_of_atom a)) of
+-- whether some word has one, by what a word says
+listed : {X : Type 0} (of : ℕ → Atom X) (p : Atom X → Bool) (words : List ℕ) → list_any (λ a. p (of a)) words ≡ any p (map of words)
+unfolding any
+listed of p [] = refl
+listed of p (a ∷ words) = ap (λ b. p (of a) || b) (listed of p words)
 
-words_scanned : {X : Type 0} (of : ℕ → Atom X) (k : ℕ) (words : List ℕ) (n : ℕ) → n ≤ length words
-    → some_from (word_at of k words) 0 n ≡ clashing k (roles_of_atoms (map of (take n words)))
+pub some_clash : {X : Type 0} (of : ℕ → Atom X) (k : ℕ) (words : List ℕ)
+    → list_any (λ a. clashing k (roles_of_atom (of a))) words ≡ clashing k (roles_of_atoms (map of words))
 unfolding roles_of_atoms
-words_scanned of k words n h =
-    some_record of words n h (λ a. clashing k (roles_of_atom a)) ∙ sym (clashing_flat k roles_of_atom (map of (take n words)))
-
-pub atoms_scanned : (k : ℕ) (atoms : List ℕ) (n : ℕ) → n ≤ 8 → length atoms ≡ 8
-    → some_from (word_at word_atom k atoms) 0 n ≡ clashing k (roles_of_atoms (map word_atom (take n atoms)))
-atoms_scanned k atoms n h l = words_scanned word_atom k atoms n (omega arith)
+some_clash of k words =
+    listed of (λ a. clashing k (roles_of_atom a)) words ∙ sym (clashing_flat k roles_of_atom (map of words))
 
 -- a question has its atoms
-pub question_clash : (k : ℕ) (q : QueryWords) (r : Bool) → r ≡ clashing k (roles_of_atoms (map word_atom (take q.size q.atoms)))
-    → r ≡ clashing k (roles_of_atoms (query_of q).atoms)
+pub question_clash : (k : ℕ) (q : QueryWords) → clashing k (roles_of_atoms (map word_atom (take q.size q.atoms)))
+    ≡ clashing k (roles_of_atoms (query_of q).atoms)
 unfolding query_of
-question_clash k q r e = e
+question_clash k q = refl
 
 pub few_atoms_there : (q : QueryWords) → Small q → q.size ≤ 8
 few_atoms_there q h = h.few_atoms
 
-pub facts_scanned : (k : ℕ) (table : List ℕ) (n : ℕ) → n ≤ length table
-    → some_from (word_at word_fact k table) 0 n ≡ clashing k (roles_of_atoms (facts_in table n))
+pub ruleset question_laws = (rules, few_atoms_there)
+
+-- a table has its facts
+pub facts_there : (k : ℕ) (table : List ℕ) (count : ℕ) (r : Bool) → r ≡ clashing k (roles_of_atoms (map word_fact (take count table)))
+    → r ≡ clashing k (roles_of_atoms (facts_in table count))
 unfolding facts_in
-facts_scanned k table n h = words_scanned word_fact k table n h
+facts_there k table count r e = e
 
-pub ruleset words_laws = (rules, scans, atoms_scanned, facts_scanned)
+-- no clash is known, and one was looked for
+pub looked_for : (c x y : Bool) → c ≡ false → x ≡ y → x ≡ (c || y)
+looked_for c x y f e = rw f e
 
-pub ruleset question_laws = (rules, question_clash, few_atoms_there)
-
--- a clash that is known, or one that was looked for
-pub or_found : (c x y : Bool) → x ≡ y → (c || x) ≡ (c || y)
-or_found c x y e = ap (λ b. c || b) e
-
-pub ruleset either_laws = (rules, or_found)
+pub ruleset either_laws = (rules, looked_for, facts_there)

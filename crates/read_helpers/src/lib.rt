@@ -2,10 +2,10 @@
 // So many are in use, the numbers from 4,095 down.
 #![tactic(auto)]
 
-ghost use Rattle.std.specs.Prelude.{◌≡◌, ◌≤◌, ◌<◌, true, false, ◌||◌, map, length, take};
+ghost use Rattle.std.specs.Prelude.{◌≡◌, ◌≤◌, ◌<◌, true, false, ◌||◌, map, length};
 ghost use Rattle.theory.specs.Lists.{all};
 ghost use Rattle.theory.specs.Qualified.{roles_of_basic, roles_of_rules, roles_of_atom, roles_of_atoms};
-ghost use Rattle.words.specs.Limits.{sheet_width, name_bound, most_rules, most_atoms};
+ghost use Rattle.words.specs.Limits.{sheet_width, name_bound, most_rules};
 ghost use Rattle.words.specs.Records.{basic_of};
 ghost use Rattle.words.specs.Words.{word_atom, word_fact, query_of, Small, facts_in};
 ghost use Rattle.sheets.specs.Format.{rule_records};
@@ -17,21 +17,21 @@ ghost use Rattle.read_helpers.specs.InUse.{is_helper as is_helper_of, clashing, 
 use read_fields::bytes::four;
 use read_records::partners::lower;
 use words::facts::{fact_kind, fact_name};
-use words::limits::{FIRST_HELPER, MOST_ATOMS, RULE_BYTES};
+use words::limits::{FIRST_HELPER, RULE_BYTES};
 use words::rules::{left_form, left_name, right_form, right_name, rule_kind};
 use words::{QueryWords, kind_of, number_of};
 
 // Whether the role is a helper in use.
 fn is_helper(role: u64, helpers: u64) -> bool
-    requires { (role < name_bound) × (helpers ≤ most_rules) }
+    requires { role < name_bound }
     ensures { result ≡ is_helper_of helpers role }
 {
-    FIRST_HELPER < role + helpers
+    FIRST_HELPER - role < helpers
 }
 
 // Whether a description has one; a concept is no role.
 fn side_clashes(form: u64, name: u64, partners: &[u16], helpers: u64) -> bool
-    requires { (name < name_bound) × (helpers ≤ most_rules) }
+    requires { name < name_bound }
     ensures { result ≡ clashing helpers (roles_of_basic (basic_as_read partners.now (basic_of form name))) }
 {
     form != 0 && is_helper(lower(partners, name), helpers)
@@ -39,7 +39,6 @@ fn side_clashes(form: u64, name: u64, partners: &[u16], helpers: u64) -> bool
 
 // Whether one of a record's two roles or descriptions has one; a filler is a concept.
 fn record_clashes(x: u64, partners: &[u16], helpers: u64) -> bool
-    requires { helpers ≤ most_rules }
     ensures { result ≡ clashing helpers (record_roles partners.now x) }
 {
     match rule_kind(x) {
@@ -70,32 +69,17 @@ pub fn rules_clash(s: &[u8], partners: &[u16], helpers: u64) -> bool
 
 // Whether an atom's role is one.
 fn atom_clashes(a: u64, helpers: u64) -> bool
-    requires { helpers ≤ most_rules }
     ensures { result ≡ clashing helpers (roles_of_atom (word_atom a)) }
 {
     kind_of(a) != 0 && is_helper(number_of(a), helpers)
 }
 
-// Whether one stands in the first n atoms.
-fn atoms_clash(atoms: [u64; MOST_ATOMS], n: usize, helpers: u64) -> bool
-    requires { (helpers ≤ most_rules) × (n ≤ most_atoms) }
-    ensures { result ≡ clashing helpers (roles_of_atoms (map word_atom (take n atoms))) }
-{
-    for i in 0..n {
-        if atom_clashes(atoms[i], helpers) {
-            return true;
-        }
-    }
-    false
-}
-
 // 18 by the question: whether one stands in its atoms.
 fn question_clashes(q: QueryWords, helpers: u64) -> bool
-    requires { (helpers ≤ most_rules) × Small q }
+    requires { Small q }
     ensures { result ≡ clashing helpers (roles_of_atoms (query_of q).atoms) }
 {
-    let atoms = q.atoms;
-    atoms_clash(atoms, q.size, helpers)
+    q.atoms[..q.size].iter().any(|a| atom_clashes(*a, helpers))
 }
 
 // 18 by rules and question: `clash` says whether one stands in a rule as written.
@@ -108,23 +92,16 @@ pub fn asked_clashes(clash: bool, q: QueryWords, helpers: u64) -> bool
 
 // Whether a fact's role is one.
 fn fact_clashes(f: u64, helpers: u64) -> bool
-    requires { helpers ≤ most_rules }
     ensures { result ≡ clashing helpers (roles_of_atom (word_fact f)) }
 {
     fact_kind(f) != 0 && is_helper(fact_name(f), helpers)
 }
 
-// 18 by the facts: whether one stands in the table's first facts.
-fn facts_clash(table: &[u64], count: usize, helpers: u64) -> bool
-    requires { (helpers ≤ most_rules) × (count ≤ length table.now) }
-    ensures { result ≡ clashing helpers (roles_of_atoms (facts_in table.now count)) }
+// 18 by the facts: whether one stands in them.
+fn facts_clash(facts: &[u64], helpers: u64) -> bool
+    ensures { result ≡ clashing helpers (roles_of_atoms (map word_fact facts.now)) }
 {
-    for i in 0..count {
-        if fact_clashes(table[i], helpers) {
-            return true;
-        }
-    }
-    false
+    facts.iter().any(|f| fact_clashes(*f, helpers))
 }
 
 // 18 by all: `clash` says whether one stands in a rule as written or in the question.
@@ -132,5 +109,5 @@ pub fn drawn_clashes(clash: bool, table: &[u64], count: usize, helpers: u64) -> 
     requires { (helpers ≤ most_rules) × (count ≤ length table.now) }
     ensures { result ≡ (clash || clashing helpers (roles_of_atoms (facts_in table.now count))) }
 {
-    clash || facts_clash(table, count, helpers)
+    clash || facts_clash(&table[..count], helpers)
 }

@@ -1,21 +1,15 @@
-use mathlib.Core.Path.{◌≡◌}
-use Prim.Native.Nat.{◌-◌, ◌≤◌}
-use lib.ListN.{length}
-use Rattle.theory.specs.Qualified.{roles_of_atoms}
-use Rattle.theory.specs.Laws.Scans.{some_from}
-use Rattle.words.specs.Words.{word_fact, facts_in}
+use mathlib.Core.Path.{◌∙◌}
+use Rattle.std.proofs.Common.{rules, tests}
+use Rattle.std.proofs.lemmas.Iterator.{YieldsList-from_slice}
+use Rattle.std.proofs.lemmas.Iterator.Search.{any_from_yields_List}
+use Rattle.theory.specs.Qualified.{roles_of_atom}
+use Rattle.words.specs.Words.{word_fact}
 use Rattle.read_helpers.specs.InUse.{clashing}
-use Rattle.read_helpers.proofs.ClashLaws.{word_at, words_laws}
+use Rattle.read_helpers.proofs.ClashLaws.{some_clash}
 use Rattle.read_helpers.proofs.facts_clash.Goals as goal
 
-pub loop-i-init : goal.loop-i-init
-loop-i-init c = search words_laws
-
-pub returns-then-fact_clashes : goal.returns-then-fact_clashes
-returns-then-fact_clashes c = search words_laws
-
-pub loop-i-preserved : goal.loop-i-preserved
-loop-i-preserved c = search words_laws
-
 pub returns : goal.returns
-returns c = search words_laws
+returns c =
+    any_from_yields_List (λ f. clashing c.args.helpers (roles_of_atom (word_fact f))) _ _ _ c.any.ensures.ran
+        (YieldsList-from_slice c.args.facts.now cc) (λ x b q h. search (rules, tests))
+    ∙ some_clash word_fact c.args.helpers c.args.facts.now
