@@ -3,11 +3,12 @@ use mathlib.Core.Path.{◌≡◌, refl, sym, ap, ap₂, ◌∙◌, subst}
 use Prim.Native.Nat.{ℕ, zero, suc, ◌+◌, ◌-◌, ◌/◌, ◌≤◌, ◌<◌}
 use native.Mathlib.Omega.{arith}
 use mathlib.Core.Bool.{Bool, true, false, not, ◌||◌}
-use mathlib.Core.List.{List, map}
+use mathlib.Core.List.{List, [], ◌∷◌, map}
 use lib.Dec.{eqb}
 use lib.ListN.{length, get_or, take, drop, length-take, length-drop, drop_of_length-le}
 use lib.Seq.{take-length, get_or-take, drop-cons}
 use native.Mathlib.Numerals.{add-one}
+use Rattle.std.specs.List.{list_any}
 use borrow.Author.Rules.{rules}
 use borrow.Author.Tests.{eq-eqb, ne_eqb}
 use Rattle.theory.specs.Lists.{any, all}
@@ -75,15 +76,11 @@ module _ (q : QueryWords) (answers atoms : List ℕ) (a : answers ≡ take q.ter
 
 -- ---- refusal 5
 
--- whether the atom at place k is the one in a
-abbrev pub same_at : ℕ → List ℕ → ℕ → Bool
-same_at a = test_at (same_atom (word_atom a)) word_atom
-
-pub among : (a : ℕ) (atoms : List ℕ) (b : Bool) → b ≡ some_from (same_at a atoms) 0 (length atoms)
-    → b ≡ any (same_atom (word_atom a)) (map word_atom atoms)
-among a atoms b e =
-    e ∙ some_record word_atom atoms (length atoms) (omega arith) (same_atom (word_atom a))
-    ∙ ap (λ l. any (same_atom (word_atom a)) (map word_atom l)) (take-length atoms)
+pub among : (a : ℕ) (atoms : List ℕ) → list_any (λ b. same_atom (word_atom a) (word_atom b)) atoms
+    ≡ any (same_atom (word_atom a)) (map word_atom atoms)
+unfolding any
+among a [] = refl
+among a (b ∷ atoms) = ap (λ r. same_atom (word_atom a) (word_atom b) || r) (among a atoms)
 
 module _ (atoms : List ℕ) (i : ℕ) (r : Bool) (so_far : repeats (map word_atom (drop i atoms)) ≡ r) where
   next : i < length atoms
@@ -173,7 +170,6 @@ pub ruleset laws = (
   refused4,
   passed4,
   term_below,
-  among,
   stands_again,
   no_more,
   none_again,

@@ -179,12 +179,7 @@ pub fn missing_answer(q: QueryWords) -> bool
 fn stands_among(atoms: &[u64], a: u64) -> bool
     ensures { result ≡ any (same_atom (word_atom a)) (map word_atom atoms.now) }
 {
-    for b in atoms {
-        if same_atom(a, *b) {
-            return true;
-        }
-    }
-    false
+    atoms.iter().any(|b| same_atom(a, *b))
 }
 
 // Refusal 5 on a question in words.
