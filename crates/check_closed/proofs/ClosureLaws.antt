@@ -4,7 +4,7 @@ use mathlib.Core.Logic.{inl, inr}
 use Prim.Native.Nat.{ℕ, ◌+◌, ◌-◌, ◌≤◌, ◌<◌}
 use native.Mathlib.Omega.{arith}
 use mathlib.Core.Bool.{Bool, true, false, not, ◌||◌, or-false}
-use mathlib.Core.Option.{Option, none}
+use mathlib.Core.Option.{Option, none, some}
 use mathlib.Core.List.{List, [], ◌∷◌, flat_map}
 use lib.ListN.{length, get_or}
 use lib.Dec.{T, eqb, eqb→eq}
@@ -25,44 +25,36 @@ use Rattle.words.specs.declared.QueryWords.{QueryWords}
 use Rattle.words.specs.Rows.{member_in}
 use Rattle.words.specs.Laws.Rows.{rows, union_from, rules_length, rule_there}
 use Rattle.query_rule.specs.RuleOnAtom.{names, unnamed_none}
-use Rattle.query_steps.specs.declared.steps.QueryFound.{QueryFound}
+use Rattle.std.specs.Prelude.{Option as Made, Some, None, IfSome}
 use Rattle.query_steps.specs.StepResults.{query_found}
 use Rattle.query_steps.proofs.StepLaws.{atom_at_lem}
-use Rattle.check_steps.proofs.WrittenLaws.{is_found, is_none, rule_steps}
+use Rattle.check_steps.proofs.WrittenLaws.{rule_steps}
 use Rattle.check_closed.specs.Outside.{outside, leads_outside, rule_out, rules_out, merge_out, merges_out}
 
 -- ---- what a step leads to
 
-pub if_found : (r : QueryFound) → (r.found ≡ true → Unrepeated (query_of r.query).atoms) → r.found ≡ true
-    → Unrepeated (query_of r.query).atoms
-if_found r h = h
-
-module _ (r : QueryFound) (union : UCQ) where
-  module _ (b : Bool) (f : r.found ≡ true) (e : b ≡ any (λ m. alike (query_of r.query) m.query) union) where
-    compared : leads_outside union (query_found r) ≡ not b
-    unfolding any to_list
-    compared = ap (leads_outside union) (is_found r (query_found r) refl f) ∙ or-false (outside union (query_of r.query)) ∙ ap not (sym e)
-
-    pub leads_inside : b ≡ true → false ≡ leads_outside union (query_found r)
-    leads_inside g = sym (compared ∙ ap not g)
-
-    pub leads_out : b ≡ false → true ≡ leads_outside union (query_found r)
-    leads_out g = sym (compared ∙ ap not g)
-
-  pub leads_nowhere : r.found ≡ false → false ≡ leads_outside union (query_found r)
+module _ (r : Made QueryWords) (union : UCQ) where
+  pub leads_out : (q : QueryWords) (b : Bool) → r ≡ Some q → b ≡ any (λ m. alike (query_of q) m.query) union
+      → not b ≡ leads_outside union (query_found r)
   unfolding any to_list
-  leads_nowhere f = sym (ap (leads_outside union) (is_none r (query_found r) refl f))
+  leads_out q b e f =
+      ap not f ∙ sym (or-false (outside union (query_of q))) ∙ ap (λ o. leads_outside union (query_found o)) (sym e)
+
+  pub leads_nowhere : r ≡ None → false ≡ leads_outside union (query_found r)
+  unfolding any to_list
+  leads_nowhere e = ap (λ o. leads_outside union (query_found o)) (sym e)
 
 -- ---- rules
 
-pub rule_distinct : (r : QueryFound) (q : QueryWords) (i x : ℕ)
-    → ((rs : List Rule) (l : ℕ) → At rs l (rule_in x) → query_found r ≡ rule_step rs (query_of q) i l) → r.found ≡ true
-    → Unrepeated (query_of r.query).atoms
-rule_distinct r q i x f g =
-    step_distinct (rule_in x ∷ []) (query_of q) (query_of r.query)
-    (inl (i, 0, is_found r (rule_step (rule_in x ∷ []) (query_of q) i 0) (f (rule_in x ∷ []) 0 refl) g))
+-- what a step makes has each atom once
+pub rule_sound : (r : Made QueryWords) (q : QueryWords) (i x : ℕ)
+    → ((rs : List Rule) (l : ℕ) → At rs l (rule_in x) → query_found r ≡ rule_step rs (query_of q) i l) → IfSome r Small
+    → IfSome r (λ p. Small p × Unrepeated (query_of p).atoms)
+rule_sound None q i x f s = s
+rule_sound (Some p) q i x f s =
+    (s, step_distinct (rule_in x ∷ []) (query_of q) (query_of p) (inl (i, 0, sym (f (rule_in x ∷ []) 0 refl))))
 
-module _ (rules : List ℕ) (count : ℕ) (r : QueryFound) (q : QueryWords) (i k : ℕ) (within : count ≤ length rules) (h : k < count)
+module _ (rules : List ℕ) (count : ℕ) (r : Made QueryWords) (q : QueryWords) (i k : ℕ) (within : count ≤ length rules) (h : k < count)
     (f : (rs : List Rule) (l : ℕ) → At rs l (rule_in (get_or rules k 0)) → query_found r ≡ rule_step rs (query_of q) i l) where
   pub rule_leads : (b : Bool) (union : UCQ) → b ≡ leads_outside union (query_found r)
       → b ≡ rule_out union (query_of q) (rules_in rules count) i k
@@ -106,12 +98,14 @@ module _ (union : UCQ) (q : Query) where
       sym (skip (merge_out union q i) size (i + 1) (i + 1) 0 (omega arith) (omega arith) (λ j g l. no_merge i j (omega arith)))
       ∙ some_begins (merge_out union q i) size
 
-module _ (r : QueryFound) (q : QueryWords) (i j : ℕ) (e : query_found r ≡ merge_step (query_of q) i j) where
-  pub merge_distinct : r.found ≡ true → Unrepeated (query_of r.query).atoms
-  merge_distinct f = step_distinct [] (query_of q) (query_of r.query) (inr (i, j, is_found r (merge_step (query_of q) i j) e f))
+pub merge_sound : (r : Made QueryWords) (q : QueryWords) (i j : ℕ) → query_found r ≡ merge_step (query_of q) i j → IfSome r Small
+    → IfSome r (λ p. Small p × Unrepeated (query_of p).atoms)
+merge_sound None q i j e s = s
+merge_sound (Some p) q i j e s = (s, step_distinct [] (query_of q) (query_of p) (inr (i, j, sym e)))
 
-  pub merge_leads : (b : Bool) (union : UCQ) → b ≡ leads_outside union (query_found r) → b ≡ merge_out union (query_of q) i j
-  merge_leads b union f = f ∙ ap (leads_outside union) e
+pub merge_leads : (r : Made QueryWords) (q : QueryWords) (i j : ℕ) (b : Bool) (union : UCQ) → query_found r ≡ merge_step (query_of q) i j
+    → b ≡ leads_outside union (query_found r) → b ≡ merge_out union (query_of q) i j
+merge_leads r q i j b union e f = f ∙ ap (leads_outside union) e
 
 -- ---- all steps from a member
 
@@ -186,7 +180,6 @@ pub ruleset laws = (
   rules,
   number_scans,
   rows,
-  leads_inside,
   leads_out,
   leads_nowhere,
   rule_leads,
@@ -194,7 +187,7 @@ pub ruleset laws = (
   word_found,
   word_later,
   merges_begin,
-  merge_distinct,
+  merge_sound,
   merge_leads,
   atoms_lead,
   pairs_lead,

@@ -1,7 +1,7 @@
 // Refusal 11: every step from every member leads to a question that is alike to a member.
 #![tactic(auto)]
 
-ghost use Rattle.std.specs.Prelude.{◌≡◌, true, ◌≤◌, ◌<◌, eqb, length, get_or};
+ghost use Rattle.std.specs.Prelude.{◌≡◌, ◌≤◌, ◌<◌, eqb, length, get_or, IfSome};
 ghost use Rattle.theory.specs.Lists.{Unrepeated, any, numbers};
 ghost use Rattle.theory.specs.Syntax.{Query};
 ghost use Rattle.theory.specs.Rewriting.{steps};
@@ -19,16 +19,19 @@ use check_distinct::alike_to_member;
 use check_distinct::members::Members;
 use check_rules::distinct;
 use query_rule::names;
-use query_steps::steps::{QueryFound, merge_step, rule_step};
+use query_steps::steps::{merge_step, rule_step};
 use words::rows::load;
 use words::{QueryWords, number_of};
 
 // Whether a step gives a question that is alike to no member.
-fn leads_outside(r: QueryFound, members: &Members) -> bool
-    requires { Small r.query × (r.found ≡ true → Unrepeated (query_of r.query).atoms) }
+fn leads_outside(r: Option<QueryWords>, members: &Members) -> bool
+    requires { IfSome r (λ q. Small q × Unrepeated (query_of q).atoms) }
     ensures { result ≡ leads_outside (union_of members.now) (query_found r) }
 {
-    r.found && !alike_to_member(r.query, members)
+    match r {
+        Some(q) => !alike_to_member(q, members),
+        None => false,
+    }
 }
 
 // Whether the rule word at index k stands earlier in the table.

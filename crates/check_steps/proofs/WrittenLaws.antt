@@ -2,7 +2,7 @@
 use mathlib.Core.Path.{◌≡◌, refl, sym, ap, ◌∙◌, subst}
 use Prim.Native.Nat.{ℕ, zero, suc, ◌+◌, ◌-◌, ◌*◌, ◌≤◌, ◌<◌}
 use native.Mathlib.Omega.{arith}
-use mathlib.Core.Bool.{Bool, true, false, not, ◌||◌}
+use mathlib.Core.Bool.{Bool, true, false, not, not-not, ◌||◌}
 use mathlib.Core.Option.{Option, none, some}
 use mathlib.Core.List.{List, [], ◌∷◌, map}
 use lib.ListN.{length, get_or, drop}
@@ -21,52 +21,38 @@ use Rattle.words.specs.Words.{query_of, Small, rules_in, union_in}
 use Rattle.words.specs.declared.QueryWords.{QueryWords}
 use Rattle.words.specs.Rows.{member_in}
 use Rattle.words.specs.Laws.Rows.{rows, union_at, union_from, rule_there, no_rule_there, step_there}
-use Rattle.query_steps.specs.declared.steps.QueryFound.{QueryFound}
+use Rattle.std.specs.Prelude.{Option as Made, Some, None, is_some as made}
 use Rattle.query_steps.specs.StepResults.{query_found}
-use Rattle.query_steps.proofs.StepLaws.{nothing_found}
 use Rattle.theory.specs.Explaining.{step_from}
 use Rattle.check_steps.specs.Written.{yields_alike}
 
--- ---- a question that was found, or not
+-- ---- what a step yields
 
-pub small_too : (p q : QueryWords) → p ≡ q → Small q → Small p
-small_too p q e s = subst Small (sym e) s
-
-module _ (r : QueryFound) (o : Option Query) (e : query_found r ≡ o) where
-  pub is_found : r.found ≡ true → o ≡ some (query_of r.query)
-  unfolding query_found
-  is_found f = sym e ∙ ap (λ b. guard b (query_of r.query)) f
-
-  pub is_none : r.found ≡ false → o ≡ none
-  unfolding query_found
-  is_none f = sym e ∙ ap (λ b. guard b (query_of r.query)) f
-
-  pub yields : r.found ≡ true → false ≡ not (is_some o)
+module _ (o : Option Query) where
+  -- whether there is none
+  pub none_made : (r : Made QueryWords) (b : Bool) → made r ≡ not b → query_found r ≡ o → b ≡ not (is_some o)
   unfolding is_some
-  yields f = sym (ap (λ x. not (is_some x)) (is_found f))
+  none_made None b e f = sym (not-not b) ∙ ap not (sym e) ∙ ap (λ x. not (is_some x)) f
+  none_made (Some q) b e f = sym (not-not b) ∙ ap not (sym e) ∙ ap (λ x. not (is_some x)) f
 
-  pub fails : r.found ≡ false → true ≡ not (is_some o)
-  unfolding is_some
-  fails f = sym (ap (λ x. not (is_some x)) (is_none f))
+  pub nothing_alike : (p : Query) → none ≡ o → false ≡ yields_alike o p
+  nothing_alike p e = ap (λ x. yields_alike x p) e
 
-  pub nothing_alike : (q : Query) → r.found ≡ false → false ≡ yields_alike o q
-  nothing_alike q f = sym (ap (λ x. yields_alike x q) (is_none f))
-
-  pub compared : (b : Bool) (m : QueryWords) (q : Query) → r.found ≡ true → b ≡ alike (query_of r.query) (query_of m) → query_of m ≡ q
-      → b ≡ yields_alike o q
-  compared b m q f g h = g ∙ ap (alike (query_of r.query)) h ∙ sym (ap (λ x. yields_alike x q) (is_found f))
+  pub compared : (q m : QueryWords) (b : Bool) (p : Query) → some (query_of q) ≡ o → b ≡ alike (query_of q) (query_of m) → query_of m ≡ p
+      → b ≡ yields_alike o p
+  compared q m b p e g h = g ∙ ap (alike (query_of q)) h ∙ ap (λ x. yields_alike x p) e
 
 -- ---- a rule by its number
 
-module _ (rules : List ℕ) (count : ℕ) (within : count ≤ length rules) (r : QueryFound) (q : QueryWords) (i k : ℕ) where
+module _ (rules : List ℕ) (count : ℕ) (within : count ≤ length rules) (r : Made QueryWords) (q : QueryWords) (i k : ℕ) where
   pub rule_steps : k < count → ((rs : List Rule) (l : ℕ) → At rs l (rule_in (get_or rules k 0)) → query_found r
       ≡ rule_step rs (query_of q) i l)
       → query_found r ≡ rule_step (rules_in rules count) (query_of q) i k
   rule_steps h f = f (rules_in rules count) k (rule_there rules count within k h)
 
-  pub no_rule : count ≤ k → query_found r ≡ none → query_found r ≡ rule_step (rules_in rules count) (query_of q) i k
+  pub no_rule : count ≤ k → none ≡ rule_step (rules_in rules count) (query_of q) i k
   unfolding rule_step
-  no_rule h e = e ∙ sym (simp (no_rule_there rules count within k h))
+  no_rule h = sym (simp (no_rule_there rules count within k h))
 
 -- ---- a step by its kind
 
@@ -221,10 +207,7 @@ pub ruleset laws = (
   rules,
   number_scans,
   rows,
-  nothing_found,
-  small_too,
-  yields,
-  fails,
+  none_made,
   nothing_alike,
   compared,
   rule_steps,

@@ -1,9 +1,7 @@
 // Refusals 8 and 9: the step written beside each later member, and what it yields.
 #![tactic(auto)]
 
-ghost use Rattle.std.specs.Prelude.{◌≡◌, true, not, [], ◌∷◌, ◌≤◌, ◌<◌, length};
-ghost use Rattle.std.proofs.Math.Option.{none};
-ghost use Rattle.theory.specs.Lists.{is_some};
+ghost use Rattle.std.specs.Prelude.{◌≡◌, true, [], ◌∷◌, ◌<◌, length, IfSome};
 ghost use Rattle.theory.specs.Refusals.{first_refusal, number_of};
 ghost use Rattle.theory.specs.Syntax.{Query};
 ghost use Rattle.theory.specs.Rewriting.{rule_step};
@@ -17,62 +15,53 @@ ghost use Rattle.theory.specs.Explaining.{step_from};
 ghost use Rattle.check_steps.specs.Written.{yields_alike};
 
 use query_alike::alike;
-use query_steps::steps::{QueryFound, merge_step, rule_step};
+use query_steps::steps::{merge_step, rule_step};
 use words::QueryWords;
 use words::limits::MEMBER_WORDS;
 use words::refusals::Refusal;
 use words::rows::load;
 use words::steps::{atom_in, kind_in, other_in, parent_in};
 
-// No question, where a step does not apply.
-fn nothing(query: QueryWords) -> QueryFound
-    ensures { (query_found result ≡ none) × (result.query ≡ query) }
-{
-    QueryFound {
-        found: false,
-        query,
-    }
-}
-
 // Rule k on atom i, if there is such a rule.
-fn rule_at(rules: &[u64], q: QueryWords, i: usize, k: usize) -> QueryFound
+fn rule_at(rules: &[u64], q: QueryWords, i: usize, k: usize) -> Option<QueryWords>
     requires { Small q }
-    ensures { (query_found result ≡ rule_step (rules_in rules.now (length rules.now)) (query_of q) i k) × Small result.query }
+    ensures step { query_found result ≡ rule_step (rules_in rules.now (length rules.now)) (query_of q) i k }
+    ensures small { IfSome result Small }
 {
-    if k < rules.len() {
-        rule_step(q, i, rules[k])
-    } else {
-        nothing(q)
+    if rules.len() <= k {
+        return None;
     }
+    rule_step(q, i, rules[k])
 }
 
 // What the step makes of the question that it starts from.
-fn applied(rules: &[u64], q: QueryWords, step: u64) -> QueryFound
+fn applied(rules: &[u64], q: QueryWords, step: u64) -> Option<QueryWords>
     requires { Small q }
-    ensures { (query_found result ≡ step_from (rules_in rules.now (length rules.now)) (query_of q) (step_of step)) × Small result.query }
+    ensures step { query_found result ≡ step_from (rules_in rules.now (length rules.now)) (query_of q) (step_of step) }
+    ensures small { IfSome result Small }
 {
     let atom = atom_in(step);
     let other = other_in(step);
     match kind_in(step) {
         1 => rule_at(rules, q, atom, other),
         2 => merge_step(q, atom, other),
-        _ => nothing(q),
+        _ => None,
     }
 }
 
 // What the step beside member k yields.
-pub fn yielded(rules: &[u64], table: &[u64], n: usize, k: usize) -> QueryFound
+pub fn yielded(rules: &[u64], table: &[u64], n: usize, k: usize) -> Option<QueryWords>
     requires { Rows table.now n × (k < n) }
-    ensures { (query_found result ≡ yield (rules_in rules.now (length rules.now)) (union_in table.now n) k
-        (member_in table.now k).step) × Small result.query }
+    ensures step { query_found result ≡ yield (rules_in rules.now (length rules.now)) (union_in table.now n) k
+        (member_in table.now k).step }
+    ensures small { IfSome result Small }
 {
     let step = table[MEMBER_WORDS * k];
     let parent = parent_in(step);
-    if parent < k {
-        applied(rules, load(table, parent), step)
-    } else {
-        nothing(load(table, k))
+    if k <= parent {
+        return None;
     }
+    applied(rules, load(table, parent), step)
 }
 
 // Refusal 8: a later member's step does not apply.
@@ -81,7 +70,7 @@ pub fn refuses8(rules: &[u64], table: &[u64], n: usize) -> bool
     ensures { (q : Query) → result ≡ refuses_eight (rules_in rules.now (length rules.now)) q (union_in table.now n) }
 {
     for k in 1..n {
-        if !yielded(rules, table, n, k).found {
+        if yielded(rules, table, n, k).is_none() {
             return true;
         }
     }
@@ -95,8 +84,10 @@ fn is_right(rules: &[u64], table: &[u64], n: usize, k: usize) -> bool
         (yield (rules_in rules.now (length rules.now)) (union_in table.now n) k (member_in table.now k).step)
         (member_in table.now k).query }
 {
-    let r = yielded(rules, table, n, k);
-    r.found && alike(r.query, load(table, k))
+    match yielded(rules, table, n, k) {
+        Some(q) => alike(q, load(table, k)),
+        None => false,
+    }
 }
 
 // The refusal where some step is not right: 8 comes before 9 if any step of the union does not apply.

@@ -1,8 +1,8 @@
 use Rattle.check_closed.proofs.ClosureLaws.{laws}
 use Rattle.check_closed.proofs.leads_outside.Goals as goal
 
-pub returns-then-r : goal.returns-then-r
-returns-then-r c = search laws
+pub returns-in-Some : goal.returns-in-Some
+returns-in-Some c = search laws
 
-pub returns-else-r : goal.returns-else-r
-returns-else-r c = search laws
+pub returns-in-None : goal.returns-in-None
+returns-in-None c = search laws

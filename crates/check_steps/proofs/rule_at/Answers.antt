@@ -1,8 +1,8 @@
 use Rattle.check_steps.proofs.WrittenLaws.{laws}
 use Rattle.check_steps.proofs.rule_at.Goals as goal
 
-pub returns-then-k-rules : goal.returns-then-k-rules
-returns-then-k-rules c = search laws
+pub returns-then-rules-k-clause-step : goal.returns-then-rules-k-clause-step
+returns-then-rules-k-clause-step c = search laws
 
-pub returns-else-k-rules : goal.returns-else-k-rules
-returns-else-k-rules c = search laws
+pub returns-clause-step : goal.returns-clause-step
+returns-clause-step c = search laws
