@@ -14,7 +14,7 @@ pub fn two(s: &[u8], at: usize) -> u64
     requires { at + 2 ≤ length s.now }
     ensures { (result ≡ number_at s.now at 2) × (result < 65536) }
 {
-    u64::from(s[at]) * 0x100 + u64::from(s[at + 1])
+    u64::from(u16::from_be_bytes([s[at], s[at + 1]]))
 }
 
 // The number in three bytes of s.
@@ -22,7 +22,7 @@ pub fn three(s: &[u8], at: usize) -> u64
     requires { at + 3 ≤ length s.now }
     ensures { (result ≡ number_at s.now at 3) × (result < 16777216) }
 {
-    u64::from(s[at]) * 0x10000 + u64::from(s[at + 1]) * 0x100 + u64::from(s[at + 2])
+    u64::from(u32::from_be_bytes([0, s[at], s[at + 1], s[at + 2]]))
 }
 
 // The number in four bytes of s.
@@ -30,7 +30,7 @@ pub fn four(s: &[u8], at: usize) -> u64
     requires { at + 4 ≤ length s.now }
     ensures { (result ≡ number_at s.now at 4) × (result < rule_bound) }
 {
-    two(s, at) * 0x10000 + two(s, at + 2)
+    u64::from(u32::from_be_bytes([s[at], s[at + 1], s[at + 2], s[at + 3]]))
 }
 
 // The number in six bytes of s.

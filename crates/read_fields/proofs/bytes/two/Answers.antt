@@ -1,6 +1,9 @@
-use borrow.Author.Rules.{rules}
-use Rattle.read_fields.proofs.NumberLaws.{laws}
+use Rattle.std.proofs.Common.{arith}
+use Rattle.read_fields.proofs.NumberLaws.{number_two}
 use Rattle.read_fields.proofs.bytes.two.Goals as goal
 
 pub returns : goal.returns
-returns c = (search laws, search rules)
+returns c =
+    let e = c.from_be_bytes.ensures in
+    let n = number_two c.args.s.now c.args.at in
+    (omega arith, omega arith)
