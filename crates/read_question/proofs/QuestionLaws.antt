@@ -29,54 +29,37 @@ first_unsound a b c e f = simp (sym e ∙ f)
 pub second_decides : (a b c d : Bool) → a ≡ b → a ≡ true → d ≡ c → d ≡ (b && c)
 second_decides a b c d e f g = g ∙ simp (sym e ∙ f)
 
--- by its counts, whichever is tested first; the bounds that the code names are `most`, `least` and `many`
+-- by its counts; what the code names is one more than the most
 module _ (s : List ℕ) (at : ℕ) where
-  pub many_terms : (terms most : ℕ) → terms ≡ term_count s at → most < terms → leb most_terms most ≡ true
+  pub many_terms : (terms n : ℕ) → terms ≡ term_count s at → n ≤ terms → leb (most_terms + 1) n ≡ true
       → false ≡ question_sound sheet_width s at
   unfolding question_sound
-  many_terms terms most e h l = rw (← e, lt-leb terms most_terms (omega (arith, leb-true most_terms most l)))
+  many_terms terms n e h l = rw (← e, lt-leb terms most_terms (omega (arith, leb-true (most_terms + 1) n l)))
 
-  pub no_atoms : (size least : ℕ) → size ≡ atom_count s at → size < least → leb least 1 ≡ true → false ≡ question_sound sheet_width s at
+  pub no_atoms : (size : ℕ) → size ≡ atom_count s at → size < 1 → false ≡ question_sound sheet_width s at
   unfolding question_sound
-  no_atoms size least d h l = rw (← d, lt-leb 1 size (omega (arith, leb-true least 1 l)), and-false)
+  no_atoms size d h = rw (← d, lt-leb 1 size h, and-false)
 
-  pub zero_atoms : (size : ℕ) → size ≡ atom_count s at → size ≡ 0 → false ≡ question_sound sheet_width s at
-  zero_atoms size d z = no_atoms size 1 d (omega arith) refl
-
-  pub many_atoms : (size many : ℕ) → size ≡ atom_count s at → many < size → leb most_atoms many ≡ true → false
+  pub many_atoms : (size n : ℕ) → size ≡ atom_count s at → n ≤ size → leb (most_atoms + 1) n ≡ true → false
       ≡ question_sound sheet_width s at
   unfolding question_sound
-  many_atoms size many d h l = rw (← d, lt-leb size most_atoms (omega (arith, leb-true most_atoms many l)), and-false)
+  many_atoms size n d h l = rw (← d, lt-leb size most_atoms (omega (arith, leb-true (most_atoms + 1) n l)), and-false)
 
 -- and by its records, where the counts are in range
 pub records_decide : (s : List ℕ) (at terms size : ℕ) (r : Bool) → terms ≡ term_count s at → size ≡ atom_count s at
     → r ≡ (all (answer_sound sheet_width) (answers_from s (at + 1) terms)
     && all (atom_sound sheet_width) (atoms_from s (at + 1 + answer_bytes sheet_width * terms) size))
-    → (most least many : ℕ) → terms ≤ most → leb most most_terms ≡ true → least ≤ size → leb 1 least ≡ true → size ≤ many
-    → leb many most_atoms ≡ true
+    → (n m : ℕ) → terms < n → leb n (most_terms + 1) ≡ true → 1 ≤ size → size < m → leb m (most_atoms + 1) ≡ true
     → r ≡ question_sound sheet_width s at
 unfolding question_sound
-records_decide s at terms size r e d f most least many a l b m c k =
+records_decide s at terms size r e d f n m a l b c k =
     rw (
       ← e,
-      le-leb terms most_terms (omega (arith, leb-true most most_terms l)),
+      le-leb terms most_terms (omega (arith, leb-true n (most_terms + 1) l)),
       ← d,
-      le-leb 1 size (omega (arith, leb-true 1 least m)),
-      le-leb size most_atoms (omega (arith, leb-true many most_atoms k)),
+      le-leb 1 size b,
+      le-leb size most_atoms (omega (arith, leb-true m (most_atoms + 1) k)),
     ) f
-
--- the same where the code asks whether there are none
-pub records_decide_some : (s : List ℕ) (at terms size : ℕ) (r : Bool) → terms ≡ term_count s at → size ≡ atom_count s at
-    → r ≡ (all (answer_sound sheet_width) (answers_from s (at + 1) terms)
-    && all (atom_sound sheet_width) (atoms_from s (at + 1 + answer_bytes sheet_width * terms) size))
-    → (most many : ℕ) → terms ≤ most → leb most most_terms ≡ true → (size ≡ 0 → ⊥) → size ≤ many → leb many most_atoms ≡ true
-    → r ≡ question_sound sheet_width s at
-records_decide_some s at terms size r e d f most many a l b c k =
-    records_decide s at terms size r e d f most 1 many a l (some size b) refl c k
-  where
-    some : (n : ℕ) → (n ≡ 0 → ⊥) → 1 ≤ n
-    some zero h = absurd (h refl)
-    some (suc n) h = omega arith
 
 -- ---- the words of a question
 
@@ -177,10 +160,8 @@ pub ruleset laws = (
   second_decides,
   many_terms,
   no_atoms,
-  zero_atoms,
   many_atoms,
   records_decide,
-  records_decide_some,
   atoms_filled,
   no_words,
   word_stored,

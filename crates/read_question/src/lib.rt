@@ -85,16 +85,10 @@ pub fn question_sound(s: &[u8], at: usize) -> bool
 {
     let terms = term_count(s, at);
     let size = atom_count(s, at);
-    if terms > MOST_TERMS {
-        return false;
+    match (terms, size) {
+        (0..=MOST_TERMS, 1..=MOST_ATOMS) => records_sound(s, at, terms, size),
+        _ => false,
     }
-    if size < 1 {
-        return false;
-    }
-    if size > MOST_ATOMS {
-        return false;
-    }
-    records_sound(s, at, terms, size)
 }
 
 // The words of the n answer terms from byte `from` on.
