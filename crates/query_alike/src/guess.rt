@@ -62,7 +62,8 @@ fn same_shape(shapes: &Shapes, s: u64, t: u64) -> bool {
 
 // Whether the terms of the atoms, which are of one kind, have the same shapes.
 fn same_shapes(shapes: &Shapes, a: u64, b: u64) -> bool {
-    same_shape(shapes, first_term(a), first_term(b)) && (kind_of(a) == 0 || same_shape(shapes, second_term(a), second_term(b)))
+    same_shape(shapes, first_term(a), first_term(b))
+        && (kind_of(a) == 0 || same_shape(shapes, second_term(a), second_term(b)))
 }
 
 // Whether a may still become b, and their terms have the same shapes.

@@ -1,8 +1,9 @@
 -- A renaming in the making as the search keeps it: 32 entries, that of a variable being where it goes or 32, and the set of the
 -- targets taken.
-use Rattle.std.specs.Prelude.{◌≡◌, ℕ, ◌<◌, Bool, true, false, not, ◌||◌, T, eqb, length, get_or, set}
+use Rattle.std.specs.Prelude.{◌≡◌, ℕ, ◌^◌, ◌<◌, Bool, true, false, not, ◌||◌, T, eqb, length, get_or, set}
 use Rattle.theory.specs.Lists.{pick}
 use Rattle.theory.specs.Syntax.{Term, var, const, Atom, on_atoms}
+use Rattle.words.specs.Words.{word_atom}
 use Rattle.query_sets.specs.Sets.{holds}
 use Rattle.query_partial.specs.declared.Partial.{Partial}
 
@@ -31,6 +32,10 @@ pub record Apart (m : Partial) : Type 0 where
   pub long : length m.to ≡ 32
   pub apart : (u v : ℕ) → u < 32 → v < 32 → (entry m u ≡ 32 → ⊥) → entry m u ≡ entry m v → u ≡ v
   pub taken : (v : ℕ) → v < 32 → (entry m v ≡ 32 → ⊥) → T (holds m.taken (entry m v))
+
+-- what a test on the words of atoms may answer is what the test on atoms says
+abbrev pub Decides : (Atom Term → Bool) → (ℕ → Bool → Type 0) → Type 0
+Decides passes answers = (a : ℕ) (b : Bool) → a < 2 ^ 64 → answers a b → b ≡ passes (word_atom a)
 
 -- the atoms have one predicate, which is kind and number
 unfoldable pub same_predicate : Atom Term → Atom Term → Bool

@@ -1,14 +1,13 @@
 // Renamings in the making, and the test that nothing speaks against one.
 #![tactic(auto)]
 
-ghost use Rattle.std.specs.Prelude.{◌≡◌, true, ◌<◌, replicate};
+ghost use Rattle.std.specs.Prelude.{◌≡◌, ℕ, Bool, true, ◌<◌, replicate};
 ghost use Rattle.theory.specs.Lists.{any, all, pairwise};
-ghost use Rattle.theory.specs.Syntax.{var, on_atoms};
+ghost use Rattle.theory.specs.Syntax.{Term, var, Atom, on_atoms};
 ghost use Rattle.theory.specs.Renaming.{promising as promising_in};
 ghost use Rattle.words.specs.Words.{query_of, Small, word_term, word_atom, LowTerm, LowAtom};
 ghost use Rattle.words.specs.Limits.{word_term_bound};
-ghost use Rattle.query_partial.specs.Partial.{may_become, Sends};
-ghost use Rattle.query_partial.specs.Partial.{same_predicate};
+ghost use Rattle.query_partial.specs.Partial.{may_become, Sends, same_predicate, Decides};
 
 use query_sets::{has, with};
 use words::{QueryWords, first_term, kind_of, number_of, second_term};
@@ -71,7 +70,8 @@ fn may_terms(m: &Partial, a: u64, b: u64) -> bool
     requires { LowAtom a × LowAtom b × (same_predicate (word_atom a) (word_atom b) ≡ true) }
     ensures { result ≡ on_atoms (may_become m.now) (word_atom a) (word_atom b) }
 {
-    may_be(m, first_term(a), first_term(b)) && (kind_of(a) == 0 || may_be(m, second_term(a), second_term(b)))
+    may_be(m, first_term(a), first_term(b))
+        && (kind_of(a) == 0 || may_be(m, second_term(a), second_term(b)))
 }
 
 // Whether the atom a may still become b.
@@ -82,30 +82,32 @@ pub fn may_atom(m: &Partial, a: u64, b: u64) -> bool
     same_predicate(a, b) && may_terms(m, a, b)
 }
 
-// Whether the atom a may still become some atom of q.
-fn goes_somewhere(m: &Partial, a: u64, q: QueryWords) -> bool
-    requires { LowAtom a × Small q }
-    ensures { result ≡ any (λ b. on_atoms (may_become m.now) (word_atom a) b) (query_of q).atoms }
+// Whether some atom of the query passes the test.
+fn some_atom<F: Fn(u64) -> bool>(q: QueryWords, test: F) -> bool
+    requires small { Small q }
+    requires callable { (a : ℕ) → LowAtom a → F.pre test a }
+    ensures { (passes : Atom Term → Bool) → Decides passes (F.post test) → result ≡ any passes (query_of q).atoms }
 {
     for i in 0..q.size {
-        if may_atom(m, a, q.atoms[i]) {
+        if test(q.atoms[i]) {
             return true;
         }
     }
     false
 }
 
-// Whether some atom of p may still become the atom b.
-fn comes_from_some(m: &Partial, p: QueryWords, b: u64) -> bool
-    requires { Small p × LowAtom b }
-    ensures { result ≡ any (λ a. on_atoms (may_become m.now) a (word_atom b)) (query_of p).atoms }
+// Whether each atom of the query passes the test.
+fn each_atom<F: Fn(u64) -> bool>(q: QueryWords, test: F) -> bool
+    requires small { Small q }
+    requires callable { (a : ℕ) → LowAtom a → F.pre test a }
+    ensures { (passes : Atom Term → Bool) → Decides passes (F.post test) → result ≡ all passes (query_of q).atoms }
 {
-    for i in 0..p.size {
-        if may_atom(m, p.atoms[i], b) {
-            return true;
+    for i in 0..q.size {
+        if !test(q.atoms[i]) {
+            return false;
         }
     }
-    false
+    true
 }
 
 // Whether each atom of p may still become one of q.
@@ -113,12 +115,7 @@ fn all_go(m: &Partial, p: QueryWords, q: QueryWords) -> bool
     requires { Small p × Small q }
     ensures { result ≡ all (λ a. any (λ b. on_atoms (may_become m.now) a b) (query_of q).atoms) (query_of p).atoms }
 {
-    for i in 0..p.size {
-        if !goes_somewhere(m, p.atoms[i], q) {
-            return false;
-        }
-    }
-    true
+    each_atom(p, |a| some_atom(q, |b| may_atom(m, a, b)))
 }
 
 // Whether each atom of q may still come from one of p.
@@ -126,12 +123,7 @@ fn all_come(m: &Partial, p: QueryWords, q: QueryWords) -> bool
     requires { Small p × Small q }
     ensures { result ≡ all (λ b. any (λ a. on_atoms (may_become m.now) a b) (query_of p).atoms) (query_of q).atoms }
 {
-    for i in 0..q.size {
-        if !comes_from_some(m, p, q.atoms[i]) {
-            return false;
-        }
-    }
-    true
+    each_atom(q, |b| some_atom(p, |a| may_atom(m, a, b)))
 }
 
 // Whether the answer terms of p may still become those of q, in order.

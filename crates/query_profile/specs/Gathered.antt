@@ -1,18 +1,13 @@
 -- Sets of variables: those of the atoms that pass a test.
-use Rattle.std.specs.Prelude.{◌≡◌, ℕ, ◌^◌, ◌<◌, Bool, ◌&&◌}
+use Rattle.std.specs.Prelude.{◌≡◌, ℕ, Bool, ◌&&◌}
 use Rattle.theory.specs.Lists.{any}
 use Rattle.theory.specs.Syntax.{Term, var, Atom, Query, args, same_term}
-use Rattle.words.specs.Words.{word_atom}
 use Rattle.query_sets.specs.Sets.{holds}
 
 -- the variable stands in the atom
 unfoldable pub stands_in : ℕ → Atom Term → Bool
 unfolding any same_term
 stands_in v a = any (same_term (var v)) (args a)
-
--- what a test on the words of atoms may answer is what the test on atoms says
-abbrev pub Decides : (Atom Term → Bool) → (ℕ → Bool → Type 0) → Type 0
-Decides passes answers = (a : ℕ) (b : Bool) → a < 2 ^ 64 → answers a b → b ≡ passes (word_atom a)
 
 -- r is the set of the variables that stand in an atom that passes the test
 pub record Gathers (test : Atom Term → Bool) (q : Query) (r : ℕ) : Type 0 where

@@ -6,8 +6,8 @@ ghost use Rattle.theory.specs.Lists.{◌∈◌};
 ghost use Rattle.theory.specs.Syntax.{Term, var, Atom, terms};
 ghost use Rattle.theory.specs.Renaming.{Alike};
 ghost use Rattle.words.specs.Words.{query_of, Small, word_atom};
-ghost use Rattle.query_partial.specs.Partial.{same_predicate};
-ghost use Rattle.query_profile.specs.Gathered.{stands_in, Decides, Gathers};
+ghost use Rattle.query_partial.specs.Partial.{same_predicate, Decides};
+ghost use Rattle.query_profile.specs.Gathered.{stands_in, Gathers};
 
 use query_partial::same_predicate;
 use query_variables::used::with_atom;

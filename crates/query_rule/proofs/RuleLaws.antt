@@ -4,14 +4,13 @@ use Prim.Native.Nat.{ℕ, zero, suc, ◌≤◌, ◌<◌}
 use native.Mathlib.Omega.{arith}
 use mathlib.Core.Bool.{Bool, true, false, not, ◌&&◌, and-true, and-false}
 use mathlib.Core.Option.{Option as Maybe, none, some}
-use mathlib.Core.List.Memᴰ
 use lib.Dec.{eqb}
 use borrow.Author.Rules.{rules}
 use borrow.Author.Tests.{eq-eqb, ne_eqb, eqb-true, eqb-false}
 use Rattle.std.specs.Prelude.{Option, IfSome}
 use Rattle.std.specs.Bool.{then_some}
-use Rattle.theory.specs.Lists.{◌∈◌, pick, guard, and_then}
-use Rattle.theory.specs.Syntax.{Term, var, concept, role, named, has, has_inverse, Rule, concept_inclusion, role_inclusion, Query, args}
+use Rattle.theory.specs.Lists.{pick, guard, and_then}
+use Rattle.theory.specs.Syntax.{Term, var, concept, role, named, has, has_inverse, Rule, concept_inclusion, role_inclusion, Query}
 use Rattle.theory.specs.Syntax.{instance, oriented}
 use Rattle.theory.specs.Rewriting.{unbound, fresh, bearer, rewrite_atom}
 use Rattle.theory.proofs.Laws.Spellings.{exchanged, differ_exchanged}

@@ -19,7 +19,11 @@ use words::{QueryWords, concept_word, first_term, kind_of, number_of, role_word,
 fn right_kind(rule: u64) -> u64
     ensures { result ≡ pick (eqb (rule_kind rule) 1) (pick (eqb (right_form rule) 0) 0 1) 1 }
 {
-    if rule_kind(rule) == 1 && right_form(rule) == 0 { 0 } else { 1 }
+    if rule_kind(rule) == 1 && right_form(rule) == 0 {
+        0
+    } else {
+        1
+    }
 }
 
 // Whether the rule's right side has the atom's predicate. A rule whose right side has another makes nothing of the atom.

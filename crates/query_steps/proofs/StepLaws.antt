@@ -14,6 +14,8 @@ use lib.ListN.{length, get_or, get_elem?, take, set}
 use lib.Seq.{take-suc-set, take-set-lt}
 use borrow.Author.Rules.{rules}
 use borrow.Author.Tests.{lt-ltb, le-ltb}
+use Rattle.std.specs.Bool.{MatchBool}
+use Rattle.std.specs.List.{HoldsAt, AllWithin}
 use Rattle.theory.specs.Lists.{◌∈◌, At, pick, any, without, once}
 use Rattle.theory.specs.Syntax.{Term, var, const, Rule, Query, args, terms, map_atom, subst_term, same_atom}
 use Rattle.theory.specs.Rewriting.{rewrite_atom, unify, keep_once, substitute, change_atom, rule_step, merge_step}
@@ -53,6 +55,27 @@ mem_set (y ∷ ys) zero b (Memᴰ.head e) = inl e
 mem_set (y ∷ ys) zero b (Memᴰ.tail m) = inr (Memᴰ.tail m)
 mem_set (y ∷ ys) (suc i) b (Memᴰ.head e) = inr (Memᴰ.head e)
 mem_set (y ∷ ys) (suc i) b (Memᴰ.tail m) = elim (mem_set ys i b m) [ inl e ↦ inl e | inr n ↦ inr (Memᴰ.tail n) ]
+
+-- what a search by an iterator finds
+any_at : {X : Type 0} (p : X → Bool) (f : ℕ → X) (xs : List ℕ) (k : ℕ) → k < length xs → ((d : ℕ) → p (f (get_or xs k d)) ≡ true)
+    → any p (map f xs) ≡ true
+unfolding any
+any_at p f [] k h e = absurd (omega arith)
+any_at p f (x ∷ xs) zero h e = simp (e 0)
+any_at p f (x ∷ xs) (suc k) h e = simp (any_at p f xs k (omega arith) e, or-true)
+
+any_nowhere : {X : Type 0} (p : X → Bool) (f : ℕ → X) (xs : List ℕ)
+    → ((k d : ℕ) → 0 ≤ k → k < length xs → p (f (get_or xs k d)) ≡ false) → any p (map f xs) ≡ false
+unfolding any
+any_nowhere p f [] e = refl
+any_nowhere p f (x ∷ xs) e =
+    simp (e 0 0 (omega arith) (omega arith)) (any_nowhere p f xs (λ k d g h. e (suc k) d (omega arith) (omega arith)))
+
+pub any_found : {X : Type 0} (p : X → Bool) (f : ℕ → X) (xs : List ℕ) (r : Bool)
+    → MatchBool r ((k : ℕ) × (k < length xs) × HoldsAt (λ x. p (f x) ≡ true) xs k) (AllWithin (λ x. p (f x) ≡ false) xs 0 (length xs))
+    → r ≡ any p (map f xs)
+any_found p f xs true found = sym (any_at p f xs found.0 found.1 found.2)
+any_found p f xs false nowhere = sym (any_nowhere p f xs nowhere)
 
 -- elements kept once, with one more at the end
 without_append : {X : Type 0} (p : X → Bool) (xs ys : List X) → without p (xs ++ ys) ≡ without p xs ++ without p ys

@@ -19,12 +19,7 @@ fn has_atom(q: QueryWords, a: u64) -> bool
     requires { q.size ≤ most_atoms }
     ensures { result ≡ any (same_atom (word_atom a)) (query_of q).atoms }
 {
-    for i in 0..q.size {
-        if same_atom(a, q.atoms[i]) {
-            return true;
-        }
-    }
-    false
+    q.atoms[..q.size].iter().any(|b| same_atom(a, *b))
 }
 
 // The query with one atom more, unless it stands there already.
@@ -63,7 +58,8 @@ fn change_atom(mut q: QueryWords, i: usize, b: u64) -> QueryWords
     keep_once(q)
 }
 
-// The words of the query's answer terms under the replacement.
+// The words of the query's answer terms under the replacement. This loop and the next stay two: one over both would take the limit,
+// the step and a contract for the step, and be longer than the two.
 fn apply_answers(s: Substitution, q: QueryWords) -> [u64; MOST_TERMS]
     requires { SmallTargets s × Small q }
     ensures { (map word_term (take q.terms result) ≡ map (subst_term (subst_of s)) (query_of q).answers) × TermWords result }
@@ -87,7 +83,7 @@ fn apply_atoms(s: Substitution, q: QueryWords) -> [u64; MOST_ATOMS]
     words
 }
 
-// The query under the replacement, in its answer terms and its atoms alike.
+// The query under the replacement, in its answer terms and its atoms alike. The replacement goes by value, 01's form of its methods.
 pub fn substitute(s: Substitution, q: QueryWords) -> QueryWords
     requires { SmallTargets s × Small q }
     ensures { (query_of result ≡ substituted (subst_of s) (query_of q)) × Small result }

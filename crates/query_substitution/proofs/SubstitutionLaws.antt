@@ -1,11 +1,11 @@
 -- Replacements in words: what the code computes is what the definitions say.
-use mathlib.Core.Path.{◌≡◌, refl, sym, ap, ap₂, ◌∙◌, subst, fun_ext}
+use mathlib.Core.Path.{◌≡◌, refl, sym, ap, ◌∙◌, subst, fun_ext}
 use mathlib.Core.Logic.{inl, inr}
 use Prim.Native.Nat.{ℕ, zero, suc, ◌+◌, ◌%◌, ◌≤◌, ◌<◌}
 use native.Mathlib.Decide.{ℕ_discrete, dec_lt}
 use native.Mathlib.Omega.{arith}
 use mathlib.Core.Bool.{Bool, true, false, ◌&&◌}
-use mathlib.Core.Option.{Option as Maybe, none, some}
+use mathlib.Core.Option.{none, some}
 use mathlib.Core.List.Memᴰ
 use mathlib.Core.List.{List, [], ◌∷◌}
 use lib.Dec.{T, eqb, ltb, ltb→lt, lit<}
@@ -19,9 +19,9 @@ use Rattle.theory.proofs.Laws.Spellings.{spellings}
 use Rattle.theory.specs.Lists.{◌∈◌, pick, guard, and_then}
 use Rattle.theory.specs.Syntax.{Term, var, const, concept, role, args, map_atom, subst_term}
 use Rattle.theory.specs.Rewriting.{replace, after, join, bind, unify}
-use Rattle.theory.specs.Laws.Options.{same_test, three_ways, T_and, T_eqb, is_true}
+use Rattle.theory.specs.Laws.Options.{same_test, three_ways, T_and, T_eqb}
 use Rattle.words.specs.Limits.{word_object_bound, word_term_bound}
-use Rattle.words.specs.Words.{word_term, word_atom, word_kind, word_name, word_first, word_second, LowAtom, first_of, second_of}
+use Rattle.words.specs.Words.{word_term, word_atom, word_kind, word_name, word_first, word_second, LowAtom, second_of}
 use Rattle.words.specs.Laws.LowVariables.{concept_atom, role_atom, first_low, second_low, low_word}
 use Rattle.words.specs.Laws.LowVariables.{object_high, object_term}
 use Rattle.query_substitution.specs.Substitutions.{SmallTerm, SmallTargets, subst_of, unifier_of}
@@ -275,36 +275,36 @@ module _ (a b k l : ℕ) (ka : k ≡ word_kind a) (lb : l ≡ word_kind b) where
       -- the first terms bound, from the replacement that changes nothing on
       module _ (same : n ≡ m) (start : Substitution) (i : subst_of start ≡ var) (f g : ℕ) (fa : f ≡ word_first a) (gb : g ≡ word_first b)
         where
-        one_number : eqb (word_name a) (word_name b) ≡ true
-        one_number = eq-eqb (word_name a) (word_name b) (sym na ∙ same ∙ mb)
+          one_number : eqb (word_name a) (word_name b) ≡ true
+          one_number = eq-eqb (word_name a) (word_name b) (sym na ∙ same ∙ mb)
 
-        on_concepts : word_kind a ≡ 0 → bind (subst_of start) (word_term f) (word_term g) ≡ unify (word_atom a) (word_atom b)
-        unfolding unify
-        on_concepts c =
-            simp (i, fa, gb) (sym (simp (concept_atom a c, concept_atom b (sym lb ∙ sym e ∙ ka ∙ c), one_number)))
+          on_concepts : word_kind a ≡ 0 → bind (subst_of start) (word_term f) (word_term g) ≡ unify (word_atom a) (word_atom b)
+          unfolding unify
+          on_concepts c =
+              simp (i, fa, gb) (sym (simp (concept_atom a c, concept_atom b (sym lb ∙ sym e ∙ ka ∙ c), one_number)))
 
-        on_roles : (word_kind a ≡ 0 → ⊥)
-            → and_then (bind (subst_of start) (word_term f) (word_term g)) (λ σ. bind σ (second_of a) (second_of b))
-            ≡ unify (word_atom a) (word_atom b)
-        unfolding unify
-        on_roles c =
-            simp (i, fa, gb) (sym (simp (role_atom a c, role_atom b (λ z. c (sym ka ∙ e ∙ lb ∙ z)), one_number)))
+          on_roles : (word_kind a ≡ 0 → ⊥)
+              → and_then (bind (subst_of start) (word_term f) (word_term g)) (λ σ. bind σ (second_of a) (second_of b))
+              ≡ unify (word_atom a) (word_atom b)
+          unfolding unify
+          on_roles c =
+              simp (i, fa, gb) (sym (simp (role_atom a c, role_atom b (λ z. c (sym ka ∙ e ∙ lb ∙ z)), one_number)))
 
-        pub firsts_apart : none ≡ bind (subst_of start) (word_term f) (word_term g) → none ≡ unify (word_atom a) (word_atom b)
-        firsts_apart h =
-            elim (ℕ_discrete (word_kind a) 0) [
-              | yes c ↦ h ∙ on_concepts c
-              | no c ↦ ap (λ o. and_then o (λ σ. bind σ (second_of a) (second_of b))) h ∙ on_roles c
-            ]
+          pub firsts_apart : none ≡ bind (subst_of start) (word_term f) (word_term g) → none ≡ unify (word_atom a) (word_atom b)
+          firsts_apart h =
+              elim (ℕ_discrete (word_kind a) 0) [
+                | yes c ↦ h ∙ on_concepts c
+                | no c ↦ ap (λ o. and_then o (λ σ. bind σ (second_of a) (second_of b))) h ∙ on_roles c
+              ]
 
-        module _ (s : Substitution) (h : some (subst_of s) ≡ bind (subst_of start) (word_term f) (word_term g)) where
-          pub concepts_unified : k ≡ 0 → some (subst_of s) ≡ unify (word_atom a) (word_atom b)
-          concepts_unified z = h ∙ on_concepts (sym ka ∙ z)
+          module _ (s : Substitution) (h : some (subst_of s) ≡ bind (subst_of start) (word_term f) (word_term g)) where
+            pub concepts_unified : k ≡ 0 → some (subst_of s) ≡ unify (word_atom a) (word_atom b)
+            concepts_unified z = h ∙ on_concepts (sym ka ∙ z)
 
-          pub roles_unified : (f' g' : ℕ) (r : Option Substitution) → (k ≡ 0 → ⊥) → f' ≡ word_second a → g' ≡ word_second b
-              → unifier_of r ≡ bind (subst_of s) (word_term f') (word_term g') → unifier_of r ≡ unify (word_atom a) (word_atom b)
-          roles_unified f' g' r z fa' gb' h' =
-              h' ∙ simp (fa', gb') (ap (λ o. and_then o (λ σ. bind σ (second_of a) (second_of b))) h ∙ on_roles (λ y. z (ka ∙ y)))
+            pub roles_unified : (f' g' : ℕ) (r : Option Substitution) → (k ≡ 0 → ⊥) → f' ≡ word_second a → g' ≡ word_second b
+                → unifier_of r ≡ bind (subst_of s) (word_term f') (word_term g') → unifier_of r ≡ unify (word_atom a) (word_atom b)
+            roles_unified f' g' r z fa' gb' h' =
+                h' ∙ simp (fa', gb') (ap (λ o. and_then o (λ σ. bind σ (second_of a) (second_of b))) h ∙ on_roles (λ y. z (ka ∙ y)))
 
 pub ruleset term_laws = (rules, spellings, replaced_there, kept_elsewhere, small_place, applied, object_applied)
 

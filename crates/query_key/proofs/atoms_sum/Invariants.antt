@@ -1,5 +1,5 @@
 use mathlib.Core.Path.{◌≡◌}
-use Prim.Native.Nat.{◌*◌, ◌-◌, ◌≤◌}
+use Prim.Native.Nat.{◌*◌, ◌≤◌}
 use Rattle.query_key.specs.Key.{top, colour_by}
 use Rattle.query_key.specs.Colours.{colour_in}
 use Rattle.query_key.proofs.LoopLaws.{atoms_sum}

@@ -1,4 +1,3 @@
-use Prim.Native.Nat.{◌-◌, ◌≤◌}
 use Rattle.query_key.specs.Colours.{ColoursOf, Upto}
 use Rattle.query_key.proofs.LoopLaws.{answers_give}
 use Rattle.query_key.proofs.first_colours.Given as goal

@@ -1,4 +1,4 @@
-use Prim.Native.Nat.{◌*◌, ◌-◌, ◌≤◌}
+use Prim.Native.Nat.{◌*◌}
 use Rattle.query_key.specs.Key.{colour_by}
 use Rattle.query_key.specs.Colours.{colour_in, ColoursOf, Upto}
 use Rattle.query_key.proofs.LoopLaws.{atoms_give}

@@ -1,4 +1,4 @@
-use Rattle.std.proofs.Common.{◌≡◌, ◌<◌, ◌^◌, get_or, rules, arith}
+use Rattle.std.proofs.Common.{◌≡◌, ◌<◌, ◌^◌, get_or, rules}
 use Rattle.words.specs.Words.{word_atom}
 use Rattle.query_profile.proofs.ProfileLaws.{laws}
 use Rattle.query_profile.proofs.gathered.Goals as goal

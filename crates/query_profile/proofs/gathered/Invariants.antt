@@ -1,6 +1,6 @@
 use Rattle.std.specs.Prelude.{Bool}
 use Rattle.theory.specs.Syntax.{Term, Atom}
-use Rattle.query_profile.specs.Gathered.{Decides}
+use Rattle.query_partial.specs.Partial.{Decides}
 use Rattle.query_profile.proofs.ProfileLaws.{Gathering}
 use Rattle.query_profile.proofs.gathered.Given as goal
 

@@ -1,4 +1,3 @@
-use Prim.Native.Nat.{◌-◌, ◌≤◌}
 use Rattle.query_alike.specs.Guess.{SentBelow}
 use Rattle.query_alike.proofs.guess.all_sent.Given as goal
 

@@ -1,4 +1,3 @@
-use Prim.Native.Nat.{◌-◌, ◌≤◌}
 use Rattle.query_partial.specs.Partial.{Apart}
 use Rattle.query_alike.proofs.guess.guess.Given as goal
 

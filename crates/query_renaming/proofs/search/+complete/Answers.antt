@@ -1,4 +1,4 @@
-use Rattle.query_renaming.proofs.SearchLaws.{laws, first_found, past_unviable, past_uncompleted}
+use Rattle.query_renaming.proofs.SearchLaws.{laws, first_found}
 use Rattle.query_renaming.proofs.search.+complete.Goals as goal
 
 pub returns-then-v-eq32 : goal.returns-then-v-eq32

@@ -1,4 +1,4 @@
-use Prim.Native.Nat.{◌-◌, ◌≤◌}
+use Prim.Native.Nat.{◌-◌}
 use Rattle.query_renaming.proofs.SearchLaws.{Seeks}
 use Rattle.query_renaming.proofs.search.+complete.Given as goal
 

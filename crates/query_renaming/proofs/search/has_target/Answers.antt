@@ -1,5 +1,4 @@
-use Prim.Native.Nat.{◌-◌, ◌≤◌}
-use Rattle.query_renaming.proofs.SearchLaws.{laws, Seeks, past_unpromising}
+use Rattle.query_renaming.proofs.SearchLaws.{laws}
 use Rattle.query_renaming.proofs.search.has_target.Goals as goal
 
 pub loop-x-preserved : goal.loop-x-preserved

@@ -1,4 +1,3 @@
-use Prim.Native.Nat.{◌-◌, ◌≤◌}
 use Rattle.query_renaming.proofs.SearchLaws.{Seeks}
 use Rattle.query_renaming.proofs.search.has_target.Given as goal
 

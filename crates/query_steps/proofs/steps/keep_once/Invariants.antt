@@ -1,5 +1,5 @@
 use mathlib.Core.Path.{◌≡◌}
-use Prim.Native.Nat.{◌-◌, ◌≤◌}
+use Prim.Native.Nat.{◌≤◌}
 use Rattle.words.specs.Words.{query_of}
 use Rattle.query_steps.specs.StepResults.{once_each}
 use Rattle.query_steps.proofs.StepLaws.{cut}

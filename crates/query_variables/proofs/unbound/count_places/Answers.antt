@@ -1,7 +1,4 @@
-use mathlib.Core.Path.{◌≡◌}
-use Prim.Native.Nat.{◌+◌, ◌-◌, ◌*◌, ◌≤◌}
-use Rattle.theory.specs.Laws.Scans.{total_from}
-use Rattle.query_variables.proofs.UnboundLaws.{laws, places_at}
+use Rattle.query_variables.proofs.UnboundLaws.{laws}
 use Rattle.query_variables.proofs.unbound.count_places.Goals as goal
 
 pub loop-i-preserved : goal.loop-i-preserved

@@ -1,8 +1,3 @@
-use mathlib.Core.Path.{◌≡◌}
-use Prim.Native.Nat.{◌-◌, ◌≤◌}
-use Rattle.theory.specs.Syntax.{same_term}
-use Rattle.theory.specs.Laws.Scans.{some_from, test_at}
-use Rattle.words.specs.Words.{word_term}
 use Rattle.query_variables.proofs.UnboundLaws.{laws}
 use Rattle.query_variables.proofs.unbound.in_answers.Goals as goal
 

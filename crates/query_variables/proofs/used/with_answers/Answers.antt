@@ -1,6 +1,4 @@
-use Prim.Native.Nat.{◌-◌, ◌≤◌}
-use Rattle.query_variables.specs.UsedVariables.{AddsVariables}
-use Rattle.query_variables.proofs.UsedLaws.{laws, first_answers}
+use Rattle.query_variables.proofs.UsedLaws.{laws}
 use Rattle.query_variables.proofs.used.with_answers.Goals as goal
 
 pub loop-i-init : goal.loop-i-init

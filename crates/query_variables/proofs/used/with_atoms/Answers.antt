@@ -1,6 +1,4 @@
-use Prim.Native.Nat.{◌-◌, ◌≤◌}
-use Rattle.query_variables.specs.UsedVariables.{AddsVariables}
-use Rattle.query_variables.proofs.UsedLaws.{laws, first_places}
+use Rattle.query_variables.proofs.UsedLaws.{laws}
 use Rattle.query_variables.proofs.used.with_atoms.Goals as goal
 
 pub loop-k-init : goal.loop-k-init
