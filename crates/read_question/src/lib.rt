@@ -42,7 +42,7 @@ pub fn question_length(s: &[u8], at: usize) -> usize
     1 + ANSWER_BYTES * term_count(s, at) + ATOM_BYTES * atom_count(s, at)
 }
 
-// Whether the n answer records from byte `from` on are sound.
+// Whether the n answer records from byte `from` on are sound. The loop over atoms is another: size, reading and test all differ.
 fn answers_sound(s: &[u8], from: usize, n: usize) -> bool
     requires { from + answer_bytes sheet_width * n ≤ length s.now }
     ensures { result ≡ all (answer_sound sheet_width) (answers_from s.now from n) }
@@ -91,7 +91,7 @@ pub fn question_sound(s: &[u8], at: usize) -> bool
     }
 }
 
-// The words of the n answer terms from byte `from` on.
+// The words of the n answer terms from byte `from` on. The loop over atoms is another: size, reading and what is promised all differ.
 fn read_answers(s: &[u8], from: usize, n: usize) -> [u64; MOST_TERMS]
     requires { (from + answer_bytes sheet_width * n ≤ length s.now) × (n ≤ most_terms)
         × (all (answer_sound sheet_width) (answers_from s.now from n) ≡ true) }

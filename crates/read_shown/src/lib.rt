@@ -30,7 +30,7 @@ fn has_member(s: &[u8], m: usize, partners: &[u16]) -> bool
     s.len() > first && union_sound(s, partners, term_count(s, first)) && m < member_count(s)
 }
 
-// The place of a part of a sheet: its first byte, 0 for an empty part, and its length.
+// The place of a part of a sheet: its first byte, 0 for an empty part, as the C interface gives it, and its length.
 #[derive(Clone, Copy)]
 pub struct Place {
     pub start: usize,

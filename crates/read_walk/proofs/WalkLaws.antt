@@ -59,22 +59,6 @@ module _ (p s : List ℕ) (arity at : ℕ) where
       pub terms_compared : k ≡ false → q.terms ≡ term_count s at → eqb q.terms arity ≡ member_sound_at p sheet_width arity s at
       terms_compared v w = rw (tests, ← e, t, ← r, ← f, u, ← d, v, w)
 
-      pub arity_compared : k ≡ false → q.terms ≡ term_count s at → eqb arity q.terms ≡ member_sound_at p sheet_width arity s at
-      arity_compared v w = eqb_comm arity q.terms ∙ terms_compared v w
-
--- ---- a member's end, if it is whole and sound
-
-module _ (p s : List ℕ) (arity at end : ℕ) (e : end ≡ member_end s at) where
-  pub end_beyond : length s < end → whole_and_sound p arity s at ≡ false
-  end_beyond h = rw (lt-leb (member_end s at) (length s) (omega arith))
-
-  module _ (h : end ≤ length s) (b : Bool) (d : b ≡ member_sound_at p sheet_width arity s (at + step_bytes)) where
-    pub end_unsound : b ≡ false → whole_and_sound p arity s at ≡ false
-    end_unsound f = rw (le-leb (member_end s at) (length s) (omega arith), ← d, f)
-
-    pub end_sound : b ≡ true → whole_and_sound p arity s at ≡ true
-    end_sound t = rw (le-leb (member_end s at) (length s) (omega arith), ← d, t)
-
 -- ---- the loop over the members
 
 -- the first n members are sound
@@ -130,11 +114,6 @@ all_sound p s arity count at j e below h k =
     ((all_iff (member_sound p sheet_width arity s) (numbers 0 count)).1
     (λ i m. below i (let l : i < count = (numbers_iff count i).0 m in omega arith)))
 
-pub all_sound_length : (p s : List ℕ) (arity count at j : ℕ) → at ≡ member_start sheet_width s j → SoundBelow p arity s j
-    → j ≤ count → count ≤ j
-    → eqb (length s) at ≡ (eqb (member_start sheet_width s count) (length s) && all (member_sound p sheet_width arity s) (numbers 0 count))
-all_sound_length p s arity count at j e below h k = eqb_comm (length s) at ∙ all_sound p s arity count at j e below h k
-
 -- ---- refusal 6
 
 not_or : (a b c : Bool) → not (not a || not b || not c) ≡ a && b && c
@@ -172,17 +151,12 @@ pub ruleset laws = (
   answer_missing,
   atom_repeated,
   terms_compared,
-  arity_compared,
-  end_beyond,
-  end_unsound,
-  end_sound,
   none_below,
   member_fails,
   next_begins,
   next_within,
   next_sound,
   all_sound,
-  all_sound_length,
   too_short,
   too_long,
   too_few,

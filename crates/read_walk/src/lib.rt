@@ -56,11 +56,7 @@ fn checked_end(s: &[u8], at: usize, arity: usize, partners: &[u16]) -> Option<us
     if s.len() < end {
         return None;
     }
-    if member_sound(s, at + STEP_BYTES, arity, partners) {
-        Some(end)
-    } else {
-        None
-    }
+    member_sound(s, at + STEP_BYTES, arity, partners).then_some(end)
 }
 
 // Whether the sheet is `count` sound members and nothing after them.

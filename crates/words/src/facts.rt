@@ -4,7 +4,7 @@ ghost use Rattle.words.specs.FactWords.{predicate_of, head_of, exchanged as exch
 ghost use Rattle.words.specs.Limits.{word_width, name_bound, word_object_bound};
 ghost use Rattle.words.specs.Records.{fact_kind, fact_name, fact_first, fact_second};
 
-// 0 for a concept, 1 for a role.
+// 0 for a concept, 1 for a role: a number, as it stands in 01's fact record.
 pub fn fact_kind(f: u64) -> u64
     ensures { (result ≡ fact_kind word_width f) × (result < 2) }
 {

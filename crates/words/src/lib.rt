@@ -63,7 +63,7 @@ pub fn number_in(t: u64) -> u64
     t % 0x1000000
 }
 
-// 0 for a concept atom, 1 for a role atom.
+// 0 for a concept atom, 1 for a role atom: a number, as it stands in 01's atom record.
 pub fn kind_of(a: u64) -> u64
     ensures { (result ≡ word_kind a) × (result < 2) }
 {

@@ -3,7 +3,7 @@ ghost use Rattle.std.specs.Prelude.{◌≡◌, ◌<◌};
 ghost use Rattle.words.specs.Limits.{name_bound};
 ghost use Rattle.words.specs.Records.{rule_kind, left_form, left_name, right_form, right_name};
 
-// 1 for an inclusion of descriptions, 2 for one of roles.
+// 1 for an inclusion of descriptions, 2 for one of roles: a number, as it stands in 01's rule record.
 pub fn rule_kind(x: u64) -> u64
     ensures { (result ≡ rule_kind x) × (result < 16) }
 {

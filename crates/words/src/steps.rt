@@ -3,7 +3,7 @@ ghost use Rattle.std.specs.Prelude.{◌≡◌, ◌<◌};
 ghost use Rattle.theory.specs.Union.{zero_step};
 ghost use Rattle.words.specs.Records.{step_kind, step_parent, step_atom, step_other, step_of};
 
-// The kind of a step: 1 for a rule, 2 for a merge.
+// The kind of a step: 1 for a rule, 2 for a merge; a number, as it stands in 01's step record.
 pub fn kind_in(step: u64) -> u64
     ensures { result ≡ step_kind step }
 {
