@@ -22,13 +22,6 @@ use Rattle.read_question.specs.QuestionWords.{answers_from, atoms_from}
 
 -- ---- a sound question
 
--- both tests, the first of them made already
-pub first_unsound : (a b c : Bool) → a ≡ b → a ≡ false → false ≡ (b && c)
-first_unsound a b c e f = simp (sym e ∙ f)
-
-pub second_decides : (a b c d : Bool) → a ≡ b → a ≡ true → d ≡ c → d ≡ (b && c)
-second_decides a b c d e f g = g ∙ simp (sym e ∙ f)
-
 -- by its counts; what the code names is one more than the most
 module _ (s : List ℕ) (at : ℕ) where
   pub many_terms : (terms n : ℕ) → terms ≡ term_count s at → n ≤ terms → leb (most_terms + 1) n ≡ true
@@ -156,8 +149,6 @@ query_read p s at terms size answers atoms e d f g = rw (f, g, e, d)
 pub ruleset laws = (
   rules,
   row_laws,
-  first_unsound,
-  second_decides,
   many_terms,
   no_atoms,
   many_atoms,

@@ -141,9 +141,6 @@ module _ (p s : List ℕ) (n : ℕ) (q : QueryWords) where
   pub empty_sheet : n ≡ 3 → length s ≡ 0 → QuestionRead p s n q
   empty_sheet e z = other_length e (λ f. omega arith)
 
-  pub no_byte : n ≡ 3 → length s < 1 → QuestionRead p s n q
-  no_byte e z = empty_sheet e (omega arith)
-
   pub wrong_length_lem : (k : ℕ) → n ≡ 3 → k ≡ question_length sheet_width s 0 → (length s ≡ k → ⊥) → QuestionRead p s n q
   wrong_length_lem k e f g = other_length e (λ z. g (z ∙ sym f))
 
@@ -178,7 +175,6 @@ pub ruleset laws = (
   meets5,
   meets_none,
   empty_sheet,
-  no_byte,
   wrong_length_lem,
   unsound,
   later_refusals,

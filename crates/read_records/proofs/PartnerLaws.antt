@@ -10,12 +10,6 @@ use Rattle.theory.specs.Laws.Lists.{get_d_within}
 use Rattle.theory.specs.Lists.{pick}
 use Rattle.sheets.specs.Partners.{is_higher, lower, partners01}
 
-pub partner_within : (p : List ℕ) (role x : ℕ) → role < length p → x ≡ get_or p role 0 → x ≡ get_or p role role
-partner_within p role x h e = e ∙ get_d_within p role 0 role h
-
-pub partner_none : (p : List ℕ) (role : ℕ) → length p ≤ role → role ≡ get_or p role role
-partner_none p role h = sym (get_or-eq_default p role h)
-
 pub is_higher_lem : (p : List ℕ) (role x : ℕ) → x ≡ get_or p role role → ltb x role ≡ is_higher p role
 unfolding is_higher
 is_higher_lem p role x e = ap (λ y. ltb y role) e
@@ -33,4 +27,4 @@ pub table01 : ◌≡◌ {A = List ℕ} (1 ∷ 0 ∷ 3 ∷ 2 ∷ 5 ∷ 4 ∷ 7 �
 unfolding partners01
 table01 = refl
 
-pub ruleset laws = (rules, partner_within, partner_none, is_higher_lem, lower_partner, lower_itself, table01)
+pub ruleset laws = (rules, is_higher_lem, lower_partner, lower_itself, table01)

@@ -100,13 +100,6 @@ pub pair_formed : (x k l r n : ℕ) (b : Bool) → k ≡ rule_kind x → l ≡ l
 unfolding pair_forms kind3_forms kind4_forms
 pair_formed x k l r n b d e f g h = rw (← d, ← e, ← f, ← g) h
 
--- whether a kind 4 stands exactly where one waits for it
-pub awaited : (waits filler : Bool) → waits ≡ true → filler ≡ pick waits filler (not filler)
-awaited waits filler e = rw e
-
-pub not_awaited : (waits filler r : Bool) → waits ≡ false → r ≡ not filler → r ≡ pick waits filler (not filler)
-not_awaited waits filler r e d = rw e d
-
 pub stands_here : (x k : ℕ) (waits t four r : Bool) → k ≡ rule_kind x → four ≡ eqb k 4 → t ≡ pick waits four (not four) → t ≡ true
     → r ≡ pair_forms x → r ≡ follows waits x
 unfolding follows
@@ -150,8 +143,6 @@ pub ruleset form_laws = (
   pair_other,
   is_named,
   pair_formed,
-  awaited,
-  not_awaited,
   stands_here,
   stands_wrong,
 )

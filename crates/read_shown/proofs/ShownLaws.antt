@@ -29,9 +29,6 @@ module _ (p s : List ℕ) (m : ℕ) where
       ap (λ b. b && ltb m (member_count s))
       (refused p s (term_count s first_question) (λ t. let l : 7 ≤ length s = at_least p s (term_count s first_question) t in omega arith))
 
-  pub shorter_has_none : length s < 7 → false ≡ has_member p sheet_width s m
-  shorter_has_none h = short_has_none (omega arith)
-
   -- by member 0's answer terms
   module _ (terms : ℕ) (c : terms ≡ term_count s first_question) (r : Bool) (e : r ≡ not (refuses6 p sheet_width terms s)) where
     on_its_own : r ≡ not (refuses6 p sheet_width (term_count s first_question) s)
@@ -109,7 +106,6 @@ pub ruleset laws = (
   start_within,
   start_reached,
   short_has_none,
-  shorter_has_none,
   refused_has_none,
   has_counted,
   not_placed,
