@@ -30,8 +30,8 @@ use Rattle.query_partial.specs.Partial.{entry, may_become, Sends}
 use Rattle.query_partial.specs.SentLaws.{sent_entry, not_nowhere, other_entry, either_entry, apart_next, empty_entry, apart_nothing}
 use Rattle.query_partial.specs.SentLaws.{sent_renaming}
 use Rattle.query_partial.specs.declared.Partial.{Partial}
-use Rattle.query_renaming.specs.Comparison.{Ready, Begun, Follows, RenamingOf, GoesOn, Offers, Allows, Judges, Completes}
-use Rattle.query_renaming.specs.declared.search.Compared.{Compared}
+use Rattle.query_renaming.specs.Comparison.{Begun, Follows, RenamingOf, GoesOn, Offers, Allows, Judges, Completes}
+use Rattle.query_renaming.specs.declared.compared.Compared.{Compared}
 
 -- ---- where a renaming goes on from a partial one, that one is promising
 
@@ -146,18 +146,18 @@ not_taken s m w b e f =
     is_false (holds m.taken w)
     ((T_no (holds m.taken w)).0 ((T_and (holds s.targets w) (not (holds m.taken w))).0 (subst T (sym f ∙ e) tt)).1)
 
-module _ (s : Compared) (ready : Ready s) where
+module _ (s : Compared) where
   source_stands : (v : ℕ) → holds s.sources v ≡ true → var v ∈ terms (query_of s.p)
-  source_stands v e = (variable_held (query_of s.p) s.sources v ready.sources).0 (subst T (sym e) tt)
+  source_stands v e = (variable_held (query_of s.p) s.sources v s.from).0 (subst T (sym e) tt)
 
   -- where a renaming sends a variable there is a variable of the other query
   image_held : (r : RenamingOf s) (v : ℕ) → holds s.sources v ≡ true → T (holds s.targets (r.to v))
   image_held r v e =
-      (variable_held (query_of s.q) s.targets (r.to v) ready.targets).1
+      (variable_held (query_of s.q) s.targets (r.to v) s.onto).1
       (term_into (query_of s.p) (query_of s.q) r (source_stands v e))
 
   image_low : (r : RenamingOf s) (v : ℕ) → holds s.sources v ≡ true → r.to v < 32
-  image_low r v e = ready.small_q.variables (r.to v) (term_into (query_of s.p) (query_of s.q) r (source_stands v e))
+  image_low r v e = s.small_q.variables (r.to v) (term_into (query_of s.p) (query_of s.q) r (source_stands v e))
 
   module _ (m : Partial) (v w : ℕ) (b : Bool) (e : holds s.sources v ≡ true)
       (free : b ≡ (holds s.targets w && not (holds m.taken w))) where
@@ -180,18 +180,16 @@ module _ (s : Compared) (ready : Ready s) where
 
 -- the search for a target of v, which is not assigned yet, has come to w: no renaming that goes on from m sends v below w
 pub record Seeks (s : Compared) (m : Partial) (v w : ℕ) : Type 0 where
-  pub ready : Ready s
   pub source : holds s.sources v ≡ true
   pub unsent : entry m v ≡ 32
   pub beyond : (r : RenamingOf s) → GoesOn s m r → w ≤ r.to v
 
-pub seeks_first : (s : Compared) (m : Partial) (v : ℕ) → Ready s → holds s.sources v ≡ true → entry m v ≡ 32 → Seeks s m v 0
-seeks_first s m v ready e z = record { ready = ready; source = e; unsent = z; beyond = λ r g. zero-le }
+pub seeks_first : (s : Compared) (m : Partial) (v : ℕ) → holds s.sources v ≡ true → entry m v ≡ 32 → Seeks s m v 0
+seeks_first s m v e z = record { source = e; unsent = z; beyond = λ r g. zero-le }
 
 module _ (s : Compared) (m : Partial) (v w : ℕ) (k : Seeks s m v w) where
   past : ((r : RenamingOf s) → GoesOn s m r → r.to v ≡ w → ⊥) → Seeks s m v (w + 1)
   past f = record {
-    ready = k.ready;
     source = k.source;
     unsent = k.unsent;
     beyond = λ r g. (let h = k.beyond r g in let d = f r g in omega arith);
@@ -202,13 +200,13 @@ module _ (s : Compared) (m : Partial) (v w : ℕ) (k : Seeks s m v w) where
 
   pub begun_next : (n : Partial) → Sends m v w n → Begun (query_of s.p) v m → holds m.taken w ≡ false
       → Begun (query_of s.p) (v + 1) n
-  begun_next n sends = begun_sent m n v w sends (query_of s.p) (source_stands s k.ready v k.source)
+  begun_next n sends = begun_sent m n v w sends (query_of s.p) (source_stands s v k.source)
 
   module _ (n : Partial) (b : Bool) where
     past_refused : Allows s n b → b ≡ false → Sends m v w n → Seeks s m v (w + 1)
     past_refused a f sends = past (λ r g d.
         subst T (sym (a.allows r (follows_next m n v w sends (query_of s.p) (query_of s.q) r g
-        (source_stands s k.ready v k.source) k.unsent d)) ∙ f) tt)
+        (source_stands s v k.source) k.unsent d)) ∙ f) tt)
 
     pub past_unpromising : b ≡ promising (may_become n) (query_of s.p) (query_of s.q) → b ≡ false → Sends m v w n → Seeks s m v (w + 1)
     past_unpromising d = past_refused (record { allows = λ r g. d ∙ follows_promising (query_of s.p) (query_of s.q) n r g })
@@ -242,7 +240,7 @@ module _ (s : Compared) (m : Partial) (v w : ℕ) (k : Seeks s m v w) where
     }
       where
         stands : var v ∈ terms (query_of s.p)
-        stands = source_stands s k.ready v k.source
+        stands = source_stands s v k.source
 
         goes_too : b ≡ true → (u : ℕ) → var u ∈ terms (query_of s.p) → (entry m u ≡ 32 → ⊥) → target_at t u ≡ entry m u
         goes_too h u i f =
@@ -256,14 +254,14 @@ module _ (s : Compared) (m : Partial) (v w : ℕ) (k : Seeks s m v w) where
             subst (λ c. c < x) (sym (y ∙ z)) l
 
   pub past_all : 32 ≤ w → Allows s m false
-  past_all h = record { allows = λ r g. (let x = k.beyond r g in let y = image_low s k.ready r v k.source in absurd (omega arith)) }
+  past_all h = record { allows = λ r g. (let x = k.beyond r g in let y = image_low s r v k.source in absurd (omega arith)) }
 
 pub untaken : (s : Compared) (m : Partial) (v w : ℕ) (b : Bool) → Offers s m v w b → b ≡ true → holds m.taken w ≡ false
 untaken s m v w b o e = o.untaken e
 
 -- ---- answers
 
-module _ (s : Compared) (ready : Ready s) where
+module _ (s : Compared) where
   module _ (m : Partial) where
     pub allows_all : Allows s m true
     allows_all = record { allows = λ r g. refl }
@@ -312,7 +310,7 @@ module _ (s : Compared) (ready : Ready s) where
     }
       where
         low : (u : ℕ) → var u ∈ terms (query_of s.p) → u < 32
-        low = ready.small_p.variables
+        low = s.small_p.variables
 
         long : length t ≡ 32
         long = ap length g ∙ begun.one_to_one.long
@@ -336,7 +334,7 @@ module _ (s : Compared) (ready : Ready s) where
         → Begun (query_of s.p) (v + 1) m
     passed_over v b e f =
         begun_past (query_of s.p) v m
-        (λ i. subst T (sym e ∙ not-true b f) ((variable_held (query_of s.p) s.sources v ready.sources).1 i))
+        (λ i. subst T (sym e ∙ not-true b f) ((variable_held (query_of s.p) s.sources v s.from).1 i))
 
 pub not_as_many : (s : Compared) (m : Partial) (b : Bool) → (RenamingOf s → b ≡ true) → b ≡ false → Allows s m false
 not_as_many s m b f e = record { allows = λ r g. sym e ∙ f r }

@@ -1,22 +1,15 @@
 -- What the search for a renaming knows of its arguments, and what it has to do with renamings.
 use Rattle.std.specs.Prelude.{◌≡◌, ℕ, ◌≤◌, ◌<◌, Bool, true, false, List, T, replicate}
-use Rattle.theory.specs.Lists.{◌∈◌, any}
-use Rattle.theory.specs.Syntax.{var, Query, terms, same_term}
+use Rattle.theory.specs.Lists.{◌∈◌}
+use Rattle.theory.specs.Syntax.{var, Query, terms}
 use Rattle.theory.specs.Renaming.{Alike, promising}
 use Rattle.theory.specs.Targets.{places, no_target, target_at, Targets}
 use Rattle.theory.specs.Laws.Targets.{Precedes}
-use Rattle.words.specs.Words.{query_of, Small}
+use Rattle.words.specs.Words.{query_of}
 use Rattle.query_sets.specs.Sets.{holds}
 use Rattle.query_partial.specs.Partial.{entry, may_become, Apart}
 use Rattle.query_partial.specs.declared.Partial.{Partial}
-use Rattle.query_renaming.specs.declared.search.Compared.{Compared}
-
--- two queries that were read, with the sets of their variables
-pub record Ready (s : Compared) : Type 0 where
-  pub small_p : Small s.p
-  pub small_q : Small s.q
-  pub sources : (u : ℕ) → holds s.sources u ≡ any (same_term (var u)) (terms (query_of s.p))
-  pub targets : (u : ℕ) → holds s.targets u ≡ any (same_term (var u)) (terms (query_of s.q))
+use Rattle.query_renaming.specs.declared.compared.Compared.{Compared}
 
 -- m sends the variables of p below n, no two to one target; what is no variable of p it does not send, and from n on nothing
 pub record Begun (p : Query) (n : ℕ) (m : Partial) : Type 0 where

@@ -1,4 +1,5 @@
 // Comparison of two queries: the smallest renaming from the one to the other.
 #![tactic(auto)]
 
+pub mod compared;
 pub mod search;

@@ -5,37 +5,13 @@ ghost use Rattle.theory.specs.Targets.{places, no_target, HandedBack};
 ghost use Rattle.words.specs.Words.{query_of, Small};
 ghost use Rattle.query_sets.specs.Sets.{holds};
 ghost use Rattle.query_partial.specs.Partial.{entry, may_become};
-ghost use Rattle.query_renaming.specs.Comparison.{Ready, Begun, Offers, Allows, Judges, Completes};
+ghost use Rattle.query_renaming.specs.Comparison.{Begun, Offers, Allows, Judges, Completes};
 
+use crate::compared::{Compared, prepared};
 use query_partial::{Partial, assign, nothing, promising};
 use query_profile::{beside, beside_alike, spread_alike};
 use query_sets::has;
-use query_variables::used::used;
 use words::QueryWords;
-
-// Two queries with the sets of their variables.
-#[derive(Clone, Copy)]
-pub struct Compared {
-    pub p: QueryWords,
-    pub q: QueryWords,
-    pub sources: u32,
-    pub targets: u32,
-}
-
-// The two queries with the sets of their variables.
-fn prepared(p: QueryWords, q: QueryWords) -> Compared
-    requires { Small p × Small q }
-    ensures { Ready result × (result.p ≡ p) × (result.q ≡ q) }
-{
-    let sources = used(p);
-    let targets = used(q);
-    Compared {
-        p,
-        q,
-        sources,
-        targets,
-    }
-}
 
 // Whether w is a variable of the second query that is not taken.
 fn free(s: &Compared, m: &Partial, w: u32) -> bool
@@ -47,7 +23,7 @@ fn free(s: &Compared, m: &Partial, w: u32) -> bool
 
 // Whether v, not assigned yet, may go to w as far as w alone tells: w is free, and as many variables stand beside it.
 fn offers(s: &Compared, v: u32, w: u32, m: &Partial) -> bool
-    requires { Ready s.now × (v < 32) × (w < 32) × (holds s.now.sources v ≡ true) × (entry m.now v ≡ 32) }
+    requires { (v < 32) × (w < 32) × (holds s.now.sources v ≡ true) × (entry m.now v ≡ 32) }
     ensures { Offers s.now m.now v w result }
 {
     free(s, m, w) && beside_alike(s.p, s.q, v, w)
@@ -55,7 +31,7 @@ fn offers(s: &Compared, v: u32, w: u32, m: &Partial) -> bool
 
 // Whether the variable v, not assigned yet, has a target left against which nothing speaks.
 fn has_target(s: &Compared, v: u32, m: &Partial) -> bool
-    requires { Ready s.now × (v < 32) × (holds s.now.sources v ≡ true) × (entry m.now v ≡ 32) }
+    requires { (v < 32) × (holds s.now.sources v ≡ true) × (entry m.now v ≡ 32) }
     ensures { Allows s.now m.now result }
 {
     for x in 0..32 {
@@ -68,7 +44,7 @@ fn has_target(s: &Compared, v: u32, m: &Partial) -> bool
 
 // Whether the variable v, if it is to be looked at, has a target left.
 fn still_open(s: &Compared, look: u32, v: u32, m: &Partial) -> bool
-    requires { Ready s.now × (v < 32) × (entry m.now v ≡ 32) }
+    requires { (v < 32) × (entry m.now v ≡ 32) }
     ensures { Allows s.now m.now result }
 {
     !has(look, v) || !has(s.sources, v) || has_target(s, v, m)
@@ -76,7 +52,7 @@ fn still_open(s: &Compared, look: u32, v: u32, m: &Partial) -> bool
 
 // Whether each variable from n on that is to be looked at has a target left.
 fn hopeful(s: &Compared, look: u32, n: u32, m: &Partial) -> bool
-    requires { Ready s.now × (n ≤ 32) × Begun (query_of s.now.p) n m.now }
+    requires { (n ≤ 32) × Begun (query_of s.now.p) n m.now }
     ensures { Allows s.now m.now result }
 {
     for v in n..32 {
@@ -89,7 +65,7 @@ fn hopeful(s: &Compared, look: u32, n: u32, m: &Partial) -> bool
 
 // Whether nothing speaks against the partial renaming, v being assigned last, nor leaves a variable beside v without a target.
 fn viable(s: &Compared, v: u32, m: &Partial) -> bool
-    requires { Ready s.now × (v < 32) × Begun (query_of s.now.p) (v + 1) m.now }
+    requires { (v < 32) × Begun (query_of s.now.p) (v + 1) m.now }
     ensures { Judges s.now m.now result }
 {
     promising(m, s.p, s.q) && hopeful(s, beside(s.p, v), v + 1, m)
@@ -126,7 +102,7 @@ fn all_of(m: &Partial) -> Renaming
 
 // The smallest renaming that goes on from the partial one, in which the variables below v are assigned: targets are tried rising.
 fn complete(s: &Compared, v: u32, m: &Partial) -> Renaming
-    requires { Ready s.now × (v ≤ 32) × Begun (query_of s.now.p) v m.now
+    requires { (v ≤ 32) × Begun (query_of s.now.p) v m.now
         × (promising_in (may_become m.now) (query_of s.now.p) (query_of s.now.q) ≡ true) }
     ensures { Completes s.now m.now result.found result.targets }
 {
@@ -154,7 +130,7 @@ fn complete(s: &Compared, v: u32, m: &Partial) -> Renaming
 
 // The smallest renaming, nothing being assigned yet.
 fn first_of(s: &Compared, m: &Partial) -> Renaming
-    requires { Ready s.now × Begun (query_of s.now.p) 0 m.now
+    requires { Begun (query_of s.now.p) 0 m.now
         × (promising_in (may_become m.now) (query_of s.now.p) (query_of s.now.q) ≡ true) }
     ensures { Completes s.now m.now result.found result.targets }
 {

@@ -11,7 +11,7 @@ pub viable-requires : goal.viable-requires
 viable-requires t c = search laws
 
 pub complete-r-requires : goal.complete-r-requires
-complete-r-requires t c = (search laws, (search laws, search laws, search laws, search laws))
+complete-r-requires t c = (search laws, (search laws, search laws, search laws))
 
 pub returns-then-r : goal.returns-then-r
 returns-then-r t c = search first_found
