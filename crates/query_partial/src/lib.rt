@@ -12,7 +12,7 @@ ghost use Rattle.query_partial.specs.Partial.{may_become, Sends, same_predicate,
 use query_sets::{has, with};
 use words::{QueryWords, first_term, kind_of, number_of, second_term};
 
-// Where each variable goes, 32 where it is not assigned, and the set of the targets taken.
+// Where each variable goes, 32 where it is not assigned, and the set of the targets taken: the list is handed back so, 01's form.
 #[derive(Clone, Copy)]
 pub struct Partial {
     pub to: [u8; 32],

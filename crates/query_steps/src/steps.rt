@@ -58,8 +58,8 @@ fn change_atom(mut q: QueryWords, i: usize, b: u64) -> QueryWords
     keep_once(q)
 }
 
-// The words of the query's answer terms under the replacement. This loop and the next stay two: one over both would take the limit,
-// the step and a contract for the step, and be longer than the two.
+// The words of the query's answer terms under the replacement.
+// This loop and the next stay two: one for both would need a contract for its step, and be longer.
 fn apply_answers(s: Substitution, q: QueryWords) -> [u64; MOST_TERMS]
     requires { SmallTargets s × Small q }
     ensures { (map word_term (take q.terms result) ≡ map (subst_term (subst_of s)) (query_of q).answers) × TermWords result }

@@ -30,8 +30,8 @@ pub fn with_atom(set: u32, a: u64) -> u32
     }
 }
 
-// The set with the variables of the query's answer terms put in. This loop and the next stay two: one over both would take the limit,
-// the step and a contract for the step, and be longer than the two.
+// The set with the variables of the query's answer terms put in.
+// This loop and the next stay two: one for both would need a contract for its step, and be longer.
 fn with_answers(q: QueryWords, set: u32) -> u32
     requires { Small q }
     ensures { AddsVariables (query_of q).answers set result }
