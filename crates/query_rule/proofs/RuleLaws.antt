@@ -173,9 +173,11 @@ module _ (x a : ℕ) where
 
         pub bears_first : f ≡ 1 → b ≡ unbound q (word_term u) → o ≡ then_some b t → term_found o ≡ bearer q (right_of x) (word_atom a)
         unfolding bearer
-        bears_first g i r = rw (r, found_where b t) (simp i (sym (simp (basic_has (right_form x) (right_name x) (sym fx ∙ g), described_role, tests.0, sym e, sym d))))
+        bears_first g i r =
+            rw (r, found_where b t) (simp i (sym (simp (basic_has (right_form x) (right_name x) (sym fx ∙ g), described_role, tests.0, sym e, sym d))))
 
-        pub bears_second : (f ≡ 1 → ⊥) → b ≡ unbound q (word_term t) → o ≡ then_some b u → term_found o ≡ bearer q (right_of x) (word_atom a)
+        pub bears_second : (f ≡ 1 → ⊥) → b ≡ unbound q (word_term t) → o ≡ then_some b u
+            → term_found o ≡ bearer q (right_of x) (word_atom a)
         unfolding bearer
         bears_second g i r =
             let n : ℕ = right_name x in
@@ -264,7 +266,17 @@ pub ruleset spellings = (exchanged, differ_exchanged, test_exchanged, below_one,
 
 pub ruleset predicates = (right_concept, right_description, right_role, kind_is_1, predicate_decides, number_differs, is_named)
 
-pub ruleset descriptions = (found_below, bears_concept, bears_first, bears_second, made_concept, made_first, made_second, made_exchanged, made_kept)
+pub ruleset descriptions = (
+  found_below,
+  bears_concept,
+  bears_first,
+  bears_second,
+  made_concept,
+  made_first,
+  made_second,
+  made_exchanged,
+  made_kept,
+)
 
 pub ruleset results = (described, described_low, no_bearer, not_named, turned, turned_low)
 

@@ -10,5 +10,10 @@ pub returns : goal.returns
 unfolding query_of
 returns c =
     any_found (same_atom (word_atom c.args.a)) word_atom (take c.args.q.size c.args.q.atoms) c.any.result
-    (cases_from_any _ _ _ (λ x. same_atom (word_atom c.args.a) (word_atom x) ≡ true) (λ x. same_atom (word_atom c.args.a) (word_atom x) ≡ false)
-    c.any.ensures.ran (YieldsList-from_slice (take c.args.q.size c.args.q.atoms) cc) (λ x q k. search (rules, tests)) (λ x q k. search (rules, tests)))
+    (cases_from_any _ _ _
+    (λ x. same_atom (word_atom c.args.a) (word_atom x) ≡ true)
+    (λ x. same_atom (word_atom c.args.a) (word_atom x) ≡ false)
+    c.any.ensures.ran
+    (YieldsList-from_slice (take c.args.q.size c.args.q.atoms) cc)
+    (λ x q k. search (rules, tests))
+    (λ x q k. search (rules, tests)))
