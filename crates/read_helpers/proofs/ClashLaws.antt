@@ -12,7 +12,7 @@ use Rattle.std.specs.List.{list_any}
 use borrow.Author.Rules.{rules}
 use borrow.Author.Tests.{eq-eqb, ne_eqb, lt-ltb, le-ltb}
 use Rattle.theory.specs.Lists.{pick, any, all, numbers}
-use Rattle.theory.specs.Syntax.{Atom, role, has, has_inverse}
+use Rattle.theory.specs.Syntax.{Atom, has, has_inverse}
 use Rattle.theory.specs.Qualified.{roles_of_basic, roles_of_atom, roles_of_rules, roles_of_atoms}
 use Rattle.theory.specs.Laws.Lists.{map_agree}
 use Rattle.theory.specs.Laws.Scans.{some_from, some_place, scans}

@@ -4,16 +4,14 @@ use Prim.Native.Nat.{ℕ, ◌+◌, ◌*◌, ◌/◌, ◌%◌, ◌≤◌, ◌<◌
 use native.Mathlib.Omega.{arith}
 use mathlib.Core.Bool.{Bool, true, false}
 use mathlib.Core.List.{List}
-use native.Mathlib.Decide.{dec_lt}
-use lib.Dec.{eqb, ltb, leb}
+use lib.Dec.{eqb, ltb}
 use borrow.Author.Rules.{rules}
-use borrow.Author.Tests.{ne_eqb, lt-ltb, le-ltb, lt-leb, le-leb}
+use borrow.Author.Tests.{ne_eqb, lt-ltb, le-ltb}
 use Rattle.theory.specs.Lists.{pick}
 use Rattle.theory.specs.Syntax.{concept, role}
 use Rattle.words.specs.Records.{term_of, atom_kind, atom_zero, atom_name, atom_first, atom_second, atom_of}
 use Rattle.words.specs.Limits.{sheet_width, object_bound, variable_bound, sheet_term_bound, word_object_bound}
 use Rattle.words.specs.Words.{word_term, word_atom}
-use Rattle.sheets.proofs.Laws.Tests.{eqb_comm}
 use Rattle.sheets.specs.Partners.{is_higher, lower, atom_as_read}
 use Rattle.sheets.specs.Tests.{term_sound, answer_sound, atom_sound}
 

@@ -38,7 +38,12 @@ fn fill_union(s: &[u8], partners: &[u16], table: &mut [u64], count: usize)
 
 // Reads the union sheet into the table, 16 words a member, and gives their number, unless it meets 6 for a question with so many answer
 // terms.
-pub fn read_union(s: &[u8], partners: &[u16], arity: usize, table: &mut [u64]) -> Result<usize, Refusal>
+pub fn read_union(
+    s: &[u8],
+    partners: &[u16],
+    arity: usize,
+    table: &mut [u64],
+) -> Result<usize, Refusal>
     requires { table_words ≤ length table.old }
     ensures kept { length table.new ≡ length table.old }
     ensures union { UnionRead partners.now s.now arity table.new (number_in result) (count_in result) }

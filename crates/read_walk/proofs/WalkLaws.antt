@@ -9,7 +9,7 @@ use lib.Dec.{T, eqb, leb, eqb→eq, leb→le, le→leb}
 use lib.ListN.{length, get_or-eq_default}
 use borrow.Author.Count.{below_more}
 use borrow.Author.Rules.{rules}
-use borrow.Author.Tests.{le-leb, lt-leb, leb-true}
+use borrow.Author.Tests.{le-leb, leb-true}
 use Rattle.theory.specs.Lists.{all, numbers}
 use Rattle.theory.specs.Laws.Lists.{all_iff, numbers_iff}
 use Rattle.theory.specs.Laws.Options.{T_and, is_false}
@@ -17,7 +17,6 @@ use Rattle.words.specs.Words.{query_of}
 use Rattle.words.specs.declared.QueryWords.{QueryWords}
 use Rattle.words.specs.Limits.{sheet_width, most_members, step_bytes}
 use Rattle.sheets.specs.Format.{term_count, query_at, member_count, member_start}
-use Rattle.sheets.proofs.Laws.Tests.{eqb_comm}
 use Rattle.sheets.proofs.Laws.UnionRefusals.{start_rises}
 use Rattle.sheets.proofs.Laws.UnionLengths.{first_begins, next_start, accepted, refused, too_short, too_long}
 use Rattle.sheets.specs.Partners.{query_as_read}

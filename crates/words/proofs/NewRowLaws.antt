@@ -1,15 +1,14 @@
 -- A member's row of words is made.
 use mathlib.Core.Path.{◌≡◌, refl, sym, ap, ◌∙◌}
 use Prim.Native.Nat.{ℕ, zero, suc, ◌+◌, ◌≤◌, ◌<◌}
-use native.Mathlib.Numerals.{add-one}
 use native.Mathlib.Omega.{arith}
 use mathlib.Core.List.{List, [], ◌∷◌, ◌++◌, map}
-use lib.ListN.{length, get_or, take, drop, set, drop_of_length-le}
-use lib.Seq.{paste, paste-zero, paste-suc, length-paste, drop-cons, take-append-le}
+use lib.ListN.{length, get_or, take, drop, drop_of_length-le}
+use lib.Seq.{drop-cons, take-append-le}
 use borrow.Author.Rules.{rules}
 use Rattle.theory.specs.Lists.{numbers}
 use Rattle.words.specs.Records.{step_of}
-use Rattle.words.specs.Words.{TermWords, query_of, member_of, stride}
+use Rattle.words.specs.Words.{TermWords, query_of, member_of}
 use Rattle.words.specs.declared.QueryWords.{QueryWords}
 use Rattle.words.specs.Limits.{word_term_bound, most_terms, most_atoms}
 use Rattle.words.specs.Rows.{RowOf}

@@ -1,17 +1,15 @@
 -- A member's words in a table: what is loaded is the member's question.
 use mathlib.Core.Path.{◌≡◌, sym, ap, ◌∙◌, subst}
 use Prim.Native.Nat.{ℕ, ◌+◌, ◌*◌, ◌≤◌, ◌<◌}
-use native.Mathlib.Nat.{add-zero}
 use native.Mathlib.Decide.{dec_lt}
 use native.Mathlib.Omega.{arith}
-use mathlib.Core.List.{List, [], ◌∷◌, map}
+use mathlib.Core.List.{List, map}
 use lib.Dec.{lit<}
-use lib.ListN.{length, get_or, take, drop, length-take, get_or-eq_default}
+use lib.ListN.{get_or, take, drop, length-take, get_or-eq_default}
 use lib.Seq.{get_or-take, get_or-drop, take-take, drop-drop}
 use borrow.Author.Rules.{rules}
-use Rattle.theory.specs.Lists.{◌∈◌, numbers}
+use Rattle.theory.specs.Lists.{◌∈◌}
 use Rattle.theory.specs.Syntax.{var, terms}
-use Rattle.theory.specs.Laws.Scans.{listed}
 use Rattle.words.specs.Words.{TermWords, query_of, Small, member_of, word_term, word_atom}
 use Rattle.words.specs.declared.QueryWords.{QueryWords}
 use Rattle.words.specs.Limits.{word_term_bound}

@@ -1,5 +1,4 @@
-use Prim.Native.Nat.{◌-◌}
-use Rattle.read_facts.proofs.FactLaws.{laws, fact_count, Filling}
+use Rattle.read_facts.proofs.FactLaws.{laws}
 use Rattle.read_facts.proofs.fill_facts.Goals as goal
 
 pub loop-i-init : goal.loop-i-init

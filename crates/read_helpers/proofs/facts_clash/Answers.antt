@@ -11,5 +11,5 @@ use Rattle.read_helpers.proofs.facts_clash.Goals as goal
 pub returns : goal.returns
 returns c =
     any_from_yields_List (λ f. clashing c.args.helpers (roles_of_atom (word_fact f))) _ _ _ c.any.ensures.ran
-        (YieldsList-from_slice c.args.facts.now cc) (λ x b q h. search (rules, tests))
+    (YieldsList-from_slice c.args.facts.now cc) (λ x b q h. search (rules, tests))
     ∙ some_clash word_fact c.args.helpers c.args.facts.now

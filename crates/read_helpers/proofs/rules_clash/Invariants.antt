@@ -1,12 +1,12 @@
 use mathlib.Core.Path.{◌≡◌}
-use Prim.Native.Nat.{◌-◌, ◌/◌}
+use Prim.Native.Nat.{◌/◌}
 use lib.ListN.{length}
 use Rattle.theory.specs.Qualified.{roles_of_rules}
 use Rattle.theory.specs.Laws.Scans.{some_from}
 use Rattle.words.specs.Limits.{sheet_width, rule_bytes}
 use Rattle.sheets.specs.Reading.{rules_as_written}
 use Rattle.read_helpers.specs.InUse.{clashing}
-use Rattle.read_helpers.proofs.ClashLaws.{record_at, rules_laws}
+use Rattle.read_helpers.proofs.ClashLaws.{record_at}
 use Rattle.read_helpers.proofs.rules_clash.Given as goal
 
 abbrev pub invariant-loop-i : goal.invariant-loop-i

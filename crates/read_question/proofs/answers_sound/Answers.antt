@@ -1,10 +1,3 @@
-use mathlib.Core.Path.{◌≡◌}
-use Prim.Native.Nat.{◌-◌, ◌≤◌}
-use Rattle.theory.specs.Lists.{all}
-use Rattle.words.specs.Limits.{sheet_width, answer_bytes}
-use Rattle.sheets.specs.Laws.RecordLoops.{left}
-use Rattle.sheets.specs.Tests.{answer_sound}
-use Rattle.read_question.specs.QuestionWords.{answers_from}
 use Rattle.read_question.proofs.QuestionLaws.{laws}
 use Rattle.read_question.proofs.answers_sound.Goals as goal
 

@@ -1,11 +1,9 @@
 use mathlib.Core.Path.{◌≡◌}
-use Prim.Native.Nat.{◌-◌, ◌≤◌}
 use Rattle.theory.specs.Lists.{all}
 use Rattle.words.specs.Limits.{sheet_width, answer_bytes}
 use Rattle.sheets.specs.Laws.RecordLoops.{left}
 use Rattle.sheets.specs.Tests.{answer_sound}
 use Rattle.read_question.specs.QuestionWords.{answers_from}
-use Rattle.read_question.proofs.QuestionLaws.{laws}
 use Rattle.read_question.proofs.answers_sound.Given as goal
 
 abbrev pub invariant-loop-i : goal.invariant-loop-i

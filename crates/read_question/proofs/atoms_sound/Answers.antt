@@ -1,10 +1,3 @@
-use mathlib.Core.Path.{◌≡◌}
-use Prim.Native.Nat.{◌-◌, ◌≤◌}
-use Rattle.theory.specs.Lists.{all}
-use Rattle.words.specs.Limits.{sheet_width, record_bytes}
-use Rattle.sheets.specs.Laws.RecordLoops.{left}
-use Rattle.sheets.specs.Tests.{atom_sound}
-use Rattle.read_question.specs.QuestionWords.{atoms_from}
 use Rattle.read_question.proofs.QuestionLaws.{laws}
 use Rattle.read_question.proofs.atoms_sound.Goals as goal
 

@@ -1,11 +1,9 @@
 use mathlib.Core.Path.{◌≡◌}
-use Prim.Native.Nat.{◌-◌, ◌≤◌}
 use Rattle.theory.specs.Lists.{all}
 use Rattle.words.specs.Limits.{sheet_width, record_bytes}
 use Rattle.sheets.specs.Laws.RecordLoops.{left}
 use Rattle.sheets.specs.Tests.{atom_sound}
 use Rattle.read_question.specs.QuestionWords.{atoms_from}
-use Rattle.read_question.proofs.QuestionLaws.{laws}
 use Rattle.read_question.proofs.atoms_sound.Given as goal
 
 abbrev pub invariant-loop-i : goal.invariant-loop-i

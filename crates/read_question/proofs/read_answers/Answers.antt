@@ -1,12 +1,3 @@
-use mathlib.Core.Path.{◌≡◌}
-use Prim.Native.Nat.{◌-◌, ◌≤◌}
-use mathlib.Core.List.{◌++◌, map}
-use lib.ListN.{length, take}
-use Rattle.words.specs.Limits.{sheet_width, answer_bytes}
-use Rattle.words.specs.Records.{term_of}
-use Rattle.words.specs.Words.{TermWords, word_term}
-use Rattle.sheets.specs.Laws.RecordLoops.{left}
-use Rattle.read_question.specs.QuestionWords.{answers_from}
 use Rattle.read_question.proofs.QuestionLaws.{laws}
 use Rattle.read_question.proofs.read_answers.Goals as goal
 

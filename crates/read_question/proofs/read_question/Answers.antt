@@ -1,4 +1,3 @@
-use borrow.Author.Rules.{rules}
 use Rattle.read_question.proofs.QuestionTests.{laws}
 use Rattle.read_question.proofs.read_question.Goals as goal
 

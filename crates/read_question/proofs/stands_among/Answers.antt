@@ -10,5 +10,5 @@ use Rattle.read_question.proofs.stands_among.Goals as goal
 pub returns : goal.returns
 returns c =
     any_from_yields_List (λ b. same_atom (word_atom c.args.a) (word_atom b)) _ _ _ c.any.ensures.ran
-        (YieldsList-from_slice c.args.atoms.now cc) (λ x b q h. search (rules, tests))
+    (YieldsList-from_slice c.args.atoms.now cc) (λ x b q h. search (rules, tests))
     ∙ among c.args.a c.args.atoms.now

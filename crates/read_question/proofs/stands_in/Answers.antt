@@ -1,7 +1,4 @@
-use mathlib.Core.Path.{◌≡◌}
-use Prim.Native.Nat.{◌≤◌, ◌-◌}
-use Rattle.theory.specs.Laws.Scans.{some_from}
-use Rattle.read_question.proofs.QuestionTests.{laws, stands_at}
+use Rattle.read_question.proofs.QuestionTests.{laws}
 use Rattle.read_question.proofs.stands_in.Goals as goal
 
 pub returns-then-stands : goal.returns-then-stands

@@ -1,8 +1,5 @@
 use mathlib.Core.Path.{◌≡◌}
-use Prim.Native.Nat.{◌-◌, ◌/◌}
-use lib.ListN.{length}
 use Rattle.theory.specs.Lists.{all}
-use Rattle.words.specs.Limits.{rule_bytes}
 use Rattle.sheets.specs.Format.{rule_records}
 use Rattle.sheets.specs.Tests.{passes2}
 use Rattle.read_rules.specs.Filling.{rest}

@@ -1,7 +1,5 @@
 use mathlib.Core.Path.{◌≡◌}
-use Prim.Native.Nat.{◌+◌, ◌-◌, ◌/◌, ◌≤◌}
-use lib.ListN.{length}
-use Rattle.words.specs.Limits.{rule_bytes}
+use Prim.Native.Nat.{◌+◌, ◌≤◌}
 use Rattle.sheets.specs.Format.{rule_records, pairs_in}
 use Rattle.read_rules.specs.Filling.{rest}
 use Rattle.read_rules.proofs.count_pairs.Given as goal

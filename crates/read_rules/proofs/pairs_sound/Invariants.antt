@@ -1,8 +1,5 @@
 use mathlib.Core.Path.{◌≡◌}
-use Prim.Native.Nat.{◌-◌, ◌/◌}
 use mathlib.Core.Bool.{false}
-use lib.ListN.{length}
-use Rattle.words.specs.Limits.{rule_bytes}
 use Rattle.sheets.specs.Format.{rule_records}
 use Rattle.sheets.specs.Tests.{pairs_sound}
 use Rattle.read_rules.specs.Filling.{rest}

@@ -1,7 +1,3 @@
-use mathlib.Core.Path.{◌≡◌}
-use Prim.Native.Nat.{◌≤◌, ◌-◌}
-use Rattle.words.specs.Limits.{sheet_width}
-use Rattle.sheets.specs.Format.{member_start}
 use Rattle.read_shown.proofs.ShownLaws.{laws}
 use Rattle.read_shown.proofs.member_start.Goals as goal
 

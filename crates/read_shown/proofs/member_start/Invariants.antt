@@ -2,7 +2,6 @@
 use mathlib.Core.Path.{◌≡◌}
 use Rattle.words.specs.Limits.{sheet_width}
 use Rattle.sheets.specs.Format.{member_start}
-use Rattle.read_shown.proofs.ShownLaws.{laws}
 use Rattle.read_shown.proofs.member_start.Given as goal
 
 abbrev pub invariant-loop-earlier : goal.invariant-loop-earlier

@@ -1,9 +1,8 @@
 use mathlib.Core.Path.{◌≡◌}
-use Prim.Native.Nat.{◌≤◌, ◌-◌}
 use lib.ListN.{length}
 use Rattle.words.specs.Limits.{sheet_width}
 use Rattle.sheets.specs.Format.{member_start}
-use Rattle.read_union.proofs.RowLaws.{RowsBelow, laws}
+use Rattle.read_union.proofs.RowLaws.{RowsBelow}
 use Rattle.read_union.proofs.fill_union.Given as goal
 
 abbrev pub invariant-loop-row : goal.invariant-loop-row

@@ -1,9 +1,4 @@
-use mathlib.Core.Path.{◌≡◌}
-use Prim.Native.Nat.{◌≤◌, ◌-◌}
-use lib.ListN.{length}
-use Rattle.words.specs.Limits.{sheet_width}
-use Rattle.sheets.specs.Format.{member_start}
-use Rattle.read_walk.proofs.WalkLaws.{laws, SoundBelow}
+use Rattle.read_walk.proofs.WalkLaws.{laws}
 use Rattle.read_walk.proofs.members_sound.Goals as goal
 
 pub loop-seen-init : goal.loop-seen-init
