@@ -1,13 +1,13 @@
 -- Refusal 11: the steps from a member, one by one.
-use mathlib.Core.Path.{◌≡◌, refl, sym, ap, ap₂, ◌∙◌, subst}
+use mathlib.Core.Path.{◌≡◌, refl, sym, ap, ap₂, ◌∙◌}
 use mathlib.Core.Logic.{inl, inr}
 use Prim.Native.Nat.{ℕ, ◌+◌, ◌-◌, ◌≤◌, ◌<◌}
 use native.Mathlib.Omega.{arith}
 use mathlib.Core.Bool.{Bool, true, false, not, ◌||◌, or-false}
-use mathlib.Core.Option.{Option, none, some}
+use mathlib.Core.Option.{Option, none}
 use mathlib.Core.List.{List, [], ◌∷◌, flat_map}
 use lib.ListN.{length, get_or}
-use lib.Dec.{T, eqb, eqb→eq}
+use lib.Dec.{eqb}
 use borrow.Author.Rules.{rules}
 use borrow.Author.Tests.{le-ltb, eq-eqb, ne_eqb}
 use Rattle.theory.specs.Lists.{Unrepeated, At, any, to_list, numbers}
@@ -16,7 +16,7 @@ use Rattle.theory.specs.Rewriting.{rule_step, merge_step, steps}
 use Rattle.theory.specs.Renaming.{alike}
 use Rattle.theory.specs.Union.{refuses11}
 use Rattle.theory.proofs.Laws.StepShape.{step_distinct}
-use Rattle.theory.specs.Laws.Lists.{any_append, any_map, any_flat_map, any_iff, numbers_iff}
+use Rattle.theory.specs.Laws.Lists.{any_append, any_map, any_flat_map}
 use Rattle.theory.specs.Laws.Scans.{some_from, number_scans, skip, some_begins, some_later, some_found, some_none}
 use Rattle.theory.specs.Laws.Scans.{records_length}
 use Rattle.words.specs.Records.{rule_in}

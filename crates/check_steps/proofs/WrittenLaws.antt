@@ -9,7 +9,7 @@ use lib.ListN.{length, get_or, drop}
 use lib.Dec.{T}
 use borrow.Author.Rules.{rules}
 use borrow.Author.Tests.{eq-eqb, ne_eqb, lt-ltb, le-ltb}
-use Rattle.theory.specs.Lists.{At, any, guard, is_some, numbers}
+use Rattle.theory.specs.Lists.{At, any, is_some, numbers}
 use Rattle.theory.specs.Refusals.{first_refusal, number_of}
 use Rattle.theory.specs.Syntax.{Rule, Query, Member, UCQ}
 use Rattle.theory.specs.Rewriting.{rule_step, merge_step}
@@ -17,7 +17,7 @@ use Rattle.theory.specs.Renaming.{alike}
 use Rattle.theory.specs.Union.{yield, yields_unlike, any_from, refuses8, refuses9}
 use Rattle.theory.specs.Laws.Scans.{some_from, number_scans, some_later, some_found, some_none}
 use Rattle.words.specs.Records.{rule_in, step_kind, step_parent, step_atom, step_other, step_of}
-use Rattle.words.specs.Words.{query_of, Small, rules_in, union_in}
+use Rattle.words.specs.Words.{query_of, rules_in, union_in}
 use Rattle.words.specs.declared.QueryWords.{QueryWords}
 use Rattle.words.specs.Rows.{member_in}
 use Rattle.words.specs.Laws.Rows.{rows, union_at, union_from, rule_there, no_rule_there, step_there}

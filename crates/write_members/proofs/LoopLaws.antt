@@ -26,12 +26,13 @@ use Rattle.words.specs.Words.{query_of, Small, rules_in, union_in, word_atom}
 use Rattle.words.specs.declared.QueryWords.{QueryWords}
 use Rattle.words.specs.Laws.Rows.{rule_there}
 use Rattle.query_rule.specs.RuleOnAtom.{names, unnamed_none}
-use Rattle.query_steps.specs.declared.steps.QueryFound.{QueryFound}
+use Rattle.std.specs.Prelude.{Option as Made, Result, Ok, Err}
+use Rattle.words.specs.declared.refusals.Refusal.{Refusal}
 use Rattle.query_steps.specs.StepResults.{query_found}
 use Rattle.query_steps.proofs.StepLaws.{atom_at_lem}
 use Rattle.check_steps.proofs.WrittenLaws.{rule_steps}
-use Rattle.check_closed.proofs.ClosureLaws.{same_word, same_step, merge_distinct}
-use Rattle.write_members.specs.Members.{MembersFound, HoldsMembers, Tried}
+use Rattle.check_closed.proofs.ClosureLaws.{same_word, merge_sound}
+use Rattle.write_members.specs.Members.{MembersFound, Held, TooMany, Appended, Tried}
 use Rattle.write_members.proofs.MemberLaws.{holds_itself}
 
 -- ---- a loop that appends, for each number below `end` in order, what f gives
@@ -80,26 +81,24 @@ module _ (f : ℕ → List Member) (end : ℕ) (goal : UCQ) where
   -- ---- the same of a table
 
   module _ (table keys : List ℕ) (m i : ℕ) where
-    pub loop_done : MembersFound table keys m → LeftToAppend f end goal i (union_in table m) → end ≤ i → HoldsMembers goal table keys m
+    pub loop_done : MembersFound table keys m → LeftToAppend f end goal i (union_in table m) → end ≤ i → Held goal table keys m
     loop_done found left h = holds_itself goal table keys m found (left_done i (union_in table m) left h)
 
-  module _ (u : UCQ) (i : ℕ) (left : LeftToAppend f end goal i u) (h : i < end) (table keys : List ℕ) (m : ℕ)
-      (holds : HoldsMembers (appended_all u (f i)) table keys m) where
-    pub loop_over : most_members < m → HoldsMembers goal table keys m
-    loop_over l = record {
-      found = λ g. absurd (omega arith);
-      union_is = λ g. absurd (omega arith);
-      many = λ g. left_over i u left h (holds.many l);
-    }
+  module _ (u : UCQ) (i : ℕ) (left : LeftToAppend f end goal i u) (h : i < end) where
+    pub loop_over : (refusal : Refusal) → TooMany (appended_all u (f i)) refusal → TooMany goal refusal
+    loop_over refusal over = record { number_is = over.number_is; many = left_over i u left h over.many }
 
-    pub loop_next : m ≤ most_members → LeftToAppend f end goal (i + 1) (union_in table m)
-    loop_next l = left_next i u left (union_in table m) h (holds.union_is l)
-
-pub holds_found : (union : UCQ) (table keys : List ℕ) (m : ℕ) → HoldsMembers union table keys m → m ≤ most_members
-    → MembersFound table keys m
-holds_found union table keys m holds l = holds.found l
+    pub loop_next : (table keys : List ℕ) (m : ℕ) → Held (appended_all u (f i)) table keys m
+        → LeftToAppend f end goal (i + 1) (union_in table m)
+    loop_next table keys m held = left_next i u left (union_in table m) h held.union_is
 
 -- ---- rules
+
+-- equal words are equal steps
+same_step : (rules : List ℕ) (count : ℕ) (within : count ≤ length rules) (q : Query) (i j k : ℕ) → j < count → k < count
+    → get_or rules j 0 ≡ get_or rules k 0 → rule_step (rules_in rules count) q i j ≡ rule_step (rules_in rules count) q i k
+unfolding rule_step
+same_step rules count within q i j k g h e = simp (rule_there rules count within j g, rule_there rules count within k h, e)
 
 -- what one rule makes of one atom
 module _ (rules : List ℕ) (count : ℕ) (within : count ≤ length rules) (parent : ℕ) (q : QueryWords) (i k : ℕ) (h : k < count)
@@ -113,21 +112,21 @@ module _ (rules : List ℕ) (count : ℕ) (within : count ≤ length rules) (par
   abbrev rule_of : Step
   rule_of = record { kind = 1; parent = parent; atom = i; other = k }
 
-  pub by_rule_lem : (r : QueryFound) (step : ℕ) (later later-keys : List ℕ) (m : ℕ)
+  pub by_rule_lem : (r : Made QueryWords) (step : ℕ) (later later-keys : List ℕ) (m : Result ℕ Refusal)
       → ((rs : List Rule) (l : ℕ) → At rs l (rule_in (get_or rules k 0)) → query_found r ≡ rule_step rs (query_of q) i l)
       → step_of step ≡ rule_of
-      → HoldsMembers (appended_all (union_in table n) (stepped (step_of step) (query_found r))) later later-keys m
-      → HoldsMembers ruled later later-keys m
+      → Appended (appended_all (union_in table n) (stepped (step_of step) (query_found r))) later later-keys m
+      → Appended ruled later later-keys m
   unfolding by_rule
   by_rule_lem r step later later-keys m f e holds =
-      subst (λ u. HoldsMembers u later later-keys m)
+      subst (λ u. Appended u later later-keys m)
       (ap (λ s. appended_all (union_in table n) (stepped s (query_found r))) e
       ∙ ap (λ o. appended_all (union_in table n) (stepped rule_of o)) (rule_steps rules count within r q i k h f))
       holds
 
   -- a rule for another predicate makes nothing
   pub unnamed : (b : Bool) → MembersFound table keys n → length q.atoms ≡ 8 → Small q → i < q.size
-      → b ≡ names (rule_in (get_or rules k 0)) (word_atom (get_or q.atoms i 0)) → b ≡ false → HoldsMembers ruled table keys n
+      → b ≡ names (rule_in (get_or rules k 0)) (word_atom (get_or q.atoms i 0)) → b ≡ false → Held ruled table keys n
   unfolding by_rule rule_step stepped appended_all
   unnamed b found l s g e f =
       let none_made = unnamed_none (query_of q) (rule_in (get_or rules k 0)) (word_atom (get_or q.atoms i 0)) (sym e ∙ f) in
@@ -144,7 +143,7 @@ module _ (rules : List ℕ) (count : ℕ) (within : count ≤ length rules) (par
 
   -- nor what a word that stands earlier makes
   pub second_try : (b : Bool) → MembersFound table keys n → Tried in_table (query_of q) i k (union_in table n)
-      → b ≡ any (same_word rules k) (numbers 0 k) → b ≡ true → HoldsMembers ruled table keys n
+      → b ≡ any (same_word rules k) (numbers 0 k) → b ≡ true → Held ruled table keys n
   unfolding by_rule
   second_try b found tried e f =
       let (j, m, t) = (any_iff (same_word rules k) (numbers 0 k)).0 (subst T (sym (sym e ∙ f)) tt) in
@@ -165,10 +164,9 @@ module _ (rules : List Rule) (parent : ℕ) (q : Query) (i k : ℕ) (u : UCQ) wh
       (found_stepped rules q record { kind = 1; parent = parent; atom = i; other = k } (rule_step rules q i k) e)
 
   pub one_more_tried : (table keys : List ℕ) (m : ℕ) → Tried rules q i k u
-      → HoldsMembers (appended_all u (by_rule rules parent q i k)) table keys m
-      → m ≤ most_members → Tried rules q i (k + 1) (union_in table m)
-  one_more_tried table keys m tried holds l =
-      subst (Tried rules q i (k + 1)) (sym (holds.union_is l)) record {
+      → Held (appended_all u (by_rule rules parent q i k)) table keys m → Tried rules q i (k + 1) (union_in table m)
+  one_more_tried table keys m tried held =
+      subst (Tried rules q i (k + 1)) (sym held.union_is) record {
         each = λ j r h e. elim (ℕ_discrete j k) [
           | yes d ↦ tried_now r (ap (rule_step rules q i) (sym d) ∙ e)
           | no d ↦ alike_extends r u (appended_all u (by_rule rules parent q i k)) (appended_all_extends u (by_rule rules parent q i k))
@@ -179,13 +177,13 @@ module _ (rules : List Rule) (parent : ℕ) (q : Query) (i k : ℕ) (u : UCQ) wh
 -- ---- merges
 
 module _ (parent : ℕ) (q : QueryWords) (i j : ℕ) where
-  pub by_merge_lem : (u : UCQ) (r : QueryFound) (step : ℕ) (later later-keys : List ℕ) (m : ℕ) → query_found r ≡ merge_step (query_of q) i j
+  pub by_merge_lem : (u : UCQ) (r : Made QueryWords) (step : ℕ) (later later-keys : List ℕ) (m : Result ℕ Refusal) → query_found r ≡ merge_step (query_of q) i j
       → step_of step ≡ record { kind = 2; parent = parent; atom = i; other = j }
-      → HoldsMembers (appended_all u (stepped (step_of step) (query_found r))) later later-keys m
-      → HoldsMembers (appended_all u (by_merge parent (query_of q) i j)) later later-keys m
+      → Appended (appended_all u (stepped (step_of step) (query_found r))) later later-keys m
+      → Appended (appended_all u (by_merge parent (query_of q) i j)) later later-keys m
   unfolding by_merge
   by_merge_lem u r step later later-keys m e f holds =
-      subst (λ x. HoldsMembers x later later-keys m)
+      subst (λ x. Appended x later later-keys m)
       (ap (λ s. appended_all u (stepped s (query_found r))) f
       ∙ ap (λ o. appended_all u (stepped record { kind = 2; parent = parent; atom = i; other = j } o)) e)
       holds
@@ -219,20 +217,20 @@ module _ (rules : List Rule) (count parent : ℕ) (q : Query) (i : ℕ) (goal : 
     pub tried : Tried rules q i k (union_in table n)
 
   module _ (before before-keys : List ℕ) (n k : ℕ) (now : RulesLeft k before before-keys n) where
-    pub rules_done : count ≤ k → HoldsMembers goal before before-keys n
+    pub rules_done : count ≤ k → Held goal before before-keys n
     rules_done h = loop_done (by_rule rules parent q i) count goal before before-keys n k now.found now.left h
 
-    module _ (table keys : List ℕ) (m : ℕ)
-        (holds : HoldsMembers (appended_all (union_in before n) (by_rule rules parent q i k)) table keys m)
-        (h : k < count) where
-      pub rules_stop : most_members < m → HoldsMembers goal table keys m
-      rules_stop = loop_over (by_rule rules parent q i) count goal (union_in before n) k now.left h table keys m holds
+    module _ (h : k < count) where
+      pub rules_stop : (refusal : Refusal) → TooMany (appended_all (union_in before n) (by_rule rules parent q i k)) refusal
+          → TooMany goal refusal
+      rules_stop = loop_over (by_rule rules parent q i) count goal (union_in before n) k now.left h
 
-      pub rules_next : m ≤ most_members → RulesLeft (k + 1) table keys m
-      rules_next l = record {
-        found = holds.found l;
-        left = loop_next (by_rule rules parent q i) count goal (union_in before n) k now.left h table keys m holds l;
-        tried = one_more_tried rules parent q i k (union_in before n) table keys m now.tried holds l;
+      pub rules_next : (table keys : List ℕ) (m : ℕ)
+          → Held (appended_all (union_in before n) (by_rule rules parent q i k)) table keys m → RulesLeft (k + 1) table keys m
+      rules_next table keys m held = record {
+        found = held.found;
+        left = loop_next (by_rule rules parent q i) count goal (union_in before n) k now.left h table keys m held;
+        tried = one_more_tried rules parent q i k (union_in before n) table keys m now.tried held;
       }
 
 pub rules_begin : (rules : List Rule) (count parent : ℕ) (q : Query) (i : ℕ) (table keys : List ℕ) (n : ℕ) → MembersFound table keys n
@@ -255,19 +253,21 @@ module _ (rules : List Rule) (count parent : ℕ) (q : Query) (size : ℕ) (goal
     pub left : LeftToAppend by_rules size goal i (union_in table n)
 
   module _ (before before-keys : List ℕ) (n i : ℕ) (now : AtomsLeft i before before-keys n) where
-    pub atoms_done : size ≤ i → HoldsMembers goal before before-keys n
+    pub atoms_done : size ≤ i → Held goal before before-keys n
     atoms_done h = loop_done by_rules size goal before before-keys n i now.found now.left h
 
-    module _ (table keys : List ℕ) (m : ℕ)
-        (holds : HoldsMembers (appended_all (union_in before n) (flat_map (by_rule rules parent q i) (numbers 0 count))) table keys m)
-        (h : i < size) where
-      pub atoms_stop : most_members < m → HoldsMembers goal table keys m
-      atoms_stop = loop_over by_rules size goal (union_in before n) i now.left h table keys m holds
+    module _ (h : i < size) where
+      pub atoms_stop : (refusal : Refusal)
+          → TooMany (appended_all (union_in before n) (flat_map (by_rule rules parent q i) (numbers 0 count))) refusal
+          → TooMany goal refusal
+      atoms_stop = loop_over by_rules size goal (union_in before n) i now.left h
 
-      pub atoms_next : m ≤ most_members → AtomsLeft (i + 1) table keys m
-      atoms_next l = record {
-        found = holds.found l;
-        left = loop_next by_rules size goal (union_in before n) i now.left h table keys m holds l;
+      pub atoms_next : (table keys : List ℕ) (m : ℕ)
+          → Held (appended_all (union_in before n) (flat_map (by_rule rules parent q i) (numbers 0 count))) table keys m
+          → AtomsLeft (i + 1) table keys m
+      atoms_next table keys m held = record {
+        found = held.found;
+        left = loop_next by_rules size goal (union_in before n) i now.left h table keys m held;
       }
 
 pub atoms_begin : (rules : List Rule) (count parent : ℕ) (q : Query) (size : ℕ) (table keys : List ℕ) (n : ℕ) → MembersFound table keys n
@@ -288,23 +288,24 @@ module _ (parent : ℕ) (q : QueryWords) (i size : ℕ) (goal : UCQ) where
     pub left : LeftToAppend (by_merge parent (query_of q) i) size goal j (union_in table n)
 
   module _ (before before-keys : List ℕ) (n j : ℕ) (now : LaterLeft j before before-keys n) where
-    pub later_done : size ≤ j → HoldsMembers goal before before-keys n
+    pub later_done : size ≤ j → Held goal before before-keys n
     later_done h = loop_done (by_merge parent (query_of q) i) size goal before before-keys n j now.found now.left h
 
-    module _ (table keys : List ℕ) (m : ℕ) (r : QueryFound) (step : ℕ)
-        (holds : HoldsMembers (appended_all (union_in before n) (stepped (step_of step) (query_found r))) table keys m)
-        (h : j < size) (e : query_found r ≡ merge_step (query_of q) i j)
+    module _ (r : Made QueryWords) (step : ℕ) (h : j < size) (e : query_found r ≡ merge_step (query_of q) i j)
         (f : step_of step ≡ record { kind = 2; parent = parent; atom = i; other = j }) where
-      pub later_stop : most_members < m → HoldsMembers goal table keys m
-      later_stop =
-          loop_over (by_merge parent (query_of q) i) size goal (union_in before n) j now.left h table keys m
-          (by_merge_lem parent q i j (union_in before n) r step table keys m e f holds)
+      pub later_stop : (refusal : Refusal)
+          → TooMany (appended_all (union_in before n) (stepped (step_of step) (query_found r))) refusal → TooMany goal refusal
+      later_stop refusal over =
+          loop_over (by_merge parent (query_of q) i) size goal (union_in before n) j now.left h refusal
+          (by_merge_lem parent q i j (union_in before n) r step before before-keys (Err refusal) e f over)
 
-      pub later_next : m ≤ most_members → LaterLeft (j + 1) table keys m
-      later_next l = record {
-        found = holds.found l;
+      pub later_next : (table keys : List ℕ) (m : ℕ)
+          → Held (appended_all (union_in before n) (stepped (step_of step) (query_found r))) table keys m
+          → LaterLeft (j + 1) table keys m
+      later_next table keys m held = record {
+        found = held.found;
         left = loop_next (by_merge parent (query_of q) i) size goal (union_in before n) j now.left h table keys m
-            (by_merge_lem parent q i j (union_in before n) r step table keys m e f holds) l;
+            (by_merge_lem parent q i j (union_in before n) r step table keys (Ok m) e f held);
       }
 
 pub later_begin : (parent : ℕ) (q : QueryWords) (i size : ℕ) (table keys : List ℕ) (n : ℕ) → MembersFound table keys n → i < size
@@ -322,19 +323,20 @@ module _ (parent : ℕ) (q : Query) (size : ℕ) (goal : UCQ) where
     pub left : LeftToAppend by_merges size goal i (union_in table n)
 
   module _ (before before-keys : List ℕ) (n i : ℕ) (now : PairsLeft i before before-keys n) where
-    pub pairs_done : size ≤ i → HoldsMembers goal before before-keys n
+    pub pairs_done : size ≤ i → Held goal before before-keys n
     pairs_done h = loop_done by_merges size goal before before-keys n i now.found now.left h
 
-    module _ (table keys : List ℕ) (m : ℕ)
-        (holds : HoldsMembers (appended_all (union_in before n) (flat_map (by_merge parent q i) (numbers 0 size))) table keys m)
-        (h : i < size) where
-      pub pairs_stop : most_members < m → HoldsMembers goal table keys m
-      pairs_stop = loop_over by_merges size goal (union_in before n) i now.left h table keys m holds
+    module _ (h : i < size) where
+      pub pairs_stop : (refusal : Refusal)
+          → TooMany (appended_all (union_in before n) (flat_map (by_merge parent q i) (numbers 0 size))) refusal → TooMany goal refusal
+      pairs_stop = loop_over by_merges size goal (union_in before n) i now.left h
 
-      pub pairs_next : m ≤ most_members → PairsLeft (i + 1) table keys m
-      pairs_next l = record {
-        found = holds.found l;
-        left = loop_next by_merges size goal (union_in before n) i now.left h table keys m holds l;
+      pub pairs_next : (table keys : List ℕ) (m : ℕ)
+          → Held (appended_all (union_in before n) (flat_map (by_merge parent q i) (numbers 0 size))) table keys m
+          → PairsLeft (i + 1) table keys m
+      pairs_next table keys m held = record {
+        found = held.found;
+        left = loop_next by_merges size goal (union_in before n) i now.left h table keys m held;
       }
 
 pub pairs_begin : (parent : ℕ) (q : Query) (size : ℕ) (table keys : List ℕ) (n : ℕ) → MembersFound table keys n
@@ -353,6 +355,6 @@ pub ruleset rule_loop = (rules, found_few, rules_begin, rules_done, rules_stop, 
 
 pub ruleset atom_loop = (rules, found_few, atoms_begin, atoms_done, atoms_stop, atoms_next)
 
-pub ruleset later_loop = (rules, found_few, later_begin, merge_distinct, later_done, later_stop, later_next)
+pub ruleset later_loop = (rules, found_few, later_begin, merge_sound, later_done, later_stop, later_next)
 
 pub ruleset pair_loop = (rules, found_few, pairs_begin, pairs_done, pairs_stop, pairs_next)

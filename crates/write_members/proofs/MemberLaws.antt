@@ -21,11 +21,12 @@ use Rattle.words.specs.Rows.{Rows, member_in, RowOf}
 use Rattle.words.specs.Laws.Rows.{rows}
 use Rattle.words.specs.Laws.NewRows.{old_member, new_member, longer_union, longer_rows}
 use Rattle.query_key.specs.Key.{key}
-use Rattle.query_steps.specs.declared.steps.QueryFound.{QueryFound}
+use Rattle.std.specs.Prelude.{Option as Made, Some, None, Result}
+use Rattle.words.specs.declared.refusals.Refusal.{Refusal}
+use Rattle.words.specs.declared.refusals.Refusal.TheVariants.{TooManyQuestions}
 use Rattle.query_steps.specs.StepResults.{query_found}
 use Rattle.check_distinct.specs.Keys.{Keys}
-use Rattle.check_steps.proofs.WrittenLaws.{is_found, is_none}
-use Rattle.write_members.specs.Members.{MembersFound, HoldsMembers}
+use Rattle.write_members.specs.Members.{MembersFound, Held, TooMany, Appended}
 
 pub members_length : (table : List ℕ) (n : ℕ) → length (union_in table n) ≡ n
 unfolding union_in
@@ -48,8 +49,8 @@ module _ (table keys : List ℕ) (n : ℕ) (f : MembersFound table keys n) where
 
 -- the table as it is holds the union that it holds
 pub holds_itself : (union : UCQ) (table keys : List ℕ) (n : ℕ) → MembersFound table keys n → union_in table n ≡ union
-    → HoldsMembers union table keys n
-holds_itself union table keys n f e = record { found = λ h. f; union_is = λ h. e; many = λ h. (let g = f.few in absurd (omega arith)) }
+    → Held union table keys n
+holds_itself union table keys n f e = record { found = f; union_is = e }
 
 -- ---- a new member
 
@@ -58,15 +59,11 @@ module _ (table keys : List ℕ) (n : ℕ) (f : MembersFound table keys n) (q : 
   member = record { step = step_of step; query = query_of q }
 
   -- there is no room
-  pub no_room : most_members ≤ n → HoldsMembers (union_in table n ++ (member ∷ [])) table keys (n + 1)
+  pub no_room : most_members ≤ n → TooMany (union_in table n ++ (member ∷ [])) TooManyQuestions
   no_room h =
       let l : length (union_in table n ++ (member ∷ [])) ≡ length (union_in table n) + 1 = length-append (union_in table n) (member ∷ []) in
       let m = members_length table n in
-      record {
-        found = λ g. absurd (omega arith);
-        union_is = λ g. absurd (omega arith);
-        many = λ g. omega arith;
-      }
+      record { number_is = refl; many = omega arith }
 
   module _ (h : n < most_members) (small : Small q) (distinct : Unrepeated (query_of q).atoms) (row : List ℕ) (r : RowOf member row) where
     abbrev longer : List ℕ
@@ -84,9 +81,9 @@ module _ (table keys : List ℕ) (n : ℕ) (f : MembersFound table keys n) (q : 
         }
 
     pub holds_longer : (later : List ℕ) (v : ℕ) → later ≡ paste table (stride * n) row stride → v ≡ key (query_of q)
-        → HoldsMembers (union_in table n ++ (member ∷ [])) later (set keys n v) (n + 1)
+        → Held (union_in table n ++ (member ∷ [])) later (set keys n v) (n + 1)
     holds_longer later v e k =
-        subst (λ t. HoldsMembers (union_in table n ++ (member ∷ [])) t (set keys n v) (n + 1)) (sym e)
+        subst (λ t. Held (union_in table n ++ (member ∷ [])) t (set keys n v) (n + 1)) (sym e)
         (holds_itself (union_in table n ++ (member ∷ [])) longer (set keys n v) (n + 1) found
         (longer_union table row n member r f.rows (room_for_row table keys n f h)))
       where
@@ -104,37 +101,38 @@ module _ (table keys : List ℕ) (n : ℕ) (f : MembersFound table keys n) (q : 
 
 -- ---- what a step leads to
 
-module _ (table keys : List ℕ) (n : ℕ) (r : QueryFound) (s : Step) where
+module _ (table keys : List ℕ) (n : ℕ) (r : Made QueryWords) (s : Step) where
   -- nothing
-  pub nothing_appended : MembersFound table keys n → r.found ≡ false
-      → HoldsMembers (appended_all (union_in table n) (stepped s (query_found r))) table keys n
+  pub nothing_appended : MembersFound table keys n → r ≡ None
+      → Held (appended_all (union_in table n) (stepped s (query_found r))) table keys n
   unfolding appended_all stepped
   nothing_appended f e =
       holds_itself (appended_all (union_in table n) (stepped s (query_found r))) table keys n f
-      (sym (ap (λ o. appended_all (union_in table n) (stepped s o)) (is_none r (query_found r) refl e)))
+      (sym (ap (λ o. appended_all (union_in table n) (stepped s (query_found o))) e))
 
-  abbrev is_alike : Bool
-  is_alike = any (λ m. alike (query_of r.query) m.query) (union_in table n)
+  module _ (q : QueryWords) (made : r ≡ Some q) where
+    abbrev is_alike : Bool
+    is_alike = any (λ m. alike (query_of q) m.query) (union_in table n)
 
-  one_appended : r.found ≡ true → appended_all (union_in table n) (stepped s (query_found r))
-      ≡ pick is_alike (union_in table n) (union_in table n ++ (record { step = s; query = query_of r.query } ∷ []))
-  unfolding appended_all appended stepped
-  one_appended e = ap (λ o. appended_all (union_in table n) (stepped s o)) (is_found r (query_found r) refl e)
+    one_appended : appended_all (union_in table n) (stepped s (query_found r))
+        ≡ pick is_alike (union_in table n) (union_in table n ++ (record { step = s; query = query_of q } ∷ []))
+    unfolding appended_all appended stepped
+    one_appended = ap (λ o. appended_all (union_in table n) (stepped s (query_found o))) made
 
-  pub alike_appended : (b : Bool) → MembersFound table keys n → r.found ≡ true → b ≡ is_alike → b ≡ true
-      → HoldsMembers (appended_all (union_in table n) (stepped s (query_found r))) table keys n
-  alike_appended b f e g h =
-      holds_itself (appended_all (union_in table n) (stepped s (query_found r))) table keys n f
-      (sym (one_appended e
-      ∙ ap (λ x. pick x (union_in table n) (union_in table n ++ (record { step = s; query = query_of r.query } ∷ []))) (sym g ∙ h)))
+    pub alike_appended : (b : Bool) → MembersFound table keys n → b ≡ is_alike → b ≡ true
+        → Held (appended_all (union_in table n) (stepped s (query_found r))) table keys n
+    alike_appended b f g h =
+        holds_itself (appended_all (union_in table n) (stepped s (query_found r))) table keys n f
+        (sym (one_appended
+        ∙ ap (λ x. pick x (union_in table n) (union_in table n ++ (record { step = s; query = query_of q } ∷ []))) (sym g ∙ h)))
 
-  pub new_appended : (b : Bool) (later later-keys : List ℕ) (m : ℕ) → r.found ≡ true → b ≡ is_alike → b ≡ false
-      → HoldsMembers (union_in table n ++ (record { step = s; query = query_of r.query } ∷ [])) later later-keys m
-      → HoldsMembers (appended_all (union_in table n) (stepped s (query_found r))) later later-keys m
-  new_appended b later later-keys m e g h =
-      subst (λ u. HoldsMembers u later later-keys m)
-      (sym (one_appended e
-      ∙ ap (λ x. pick x (union_in table n) (union_in table n ++ (record { step = s; query = query_of r.query } ∷ []))) (sym g ∙ h)))
+    pub new_appended : (b : Bool) (later later-keys : List ℕ) (m : Result ℕ Refusal) → b ≡ is_alike → b ≡ false
+        → Appended (union_in table n ++ (record { step = s; query = query_of q } ∷ [])) later later-keys m
+        → Appended (appended_all (union_in table n) (stepped s (query_found r))) later later-keys m
+    new_appended b later later-keys m g h =
+        subst (λ u. Appended u later later-keys m)
+        (sym (one_appended
+        ∙ ap (λ x. pick x (union_in table n) (union_in table n ++ (record { step = s; query = query_of q } ∷ []))) (sym g ∙ h)))
 
 pub ruleset laws = (
   rules,

@@ -22,9 +22,12 @@ use Rattle.words.specs.Rows.{member_in, RowOf}
 use Rattle.words.specs.Laws.Rows.{rows, union_at, rules_length}
 use Rattle.words.specs.Laws.NewRows.{new_member}
 use Rattle.query_key.specs.Key.{key}
-use Rattle.write_members.specs.Members.{MembersFound, HoldsMembers, HoldsUnion}
+use Rattle.std.specs.Prelude.{Result, Ok, Err, MatchResult}
+use Rattle.words.specs.Refusals.{code}
+use Rattle.words.specs.declared.refusals.Refusal.{Refusal}
+use Rattle.write_members.specs.Members.{MembersFound, Held, TooMany, Appended, HoldsUnion, members_in}
 use Rattle.write_members.proofs.MemberLaws.{members_length, found_rows, holds_longer}
-use Rattle.write_members.proofs.LoopLaws.{holds_found, found_few}
+use Rattle.write_members.proofs.LoopLaws.{found_few}
 
 -- ---- all steps of a member
 
@@ -53,20 +56,20 @@ module _ (rules : List ℕ) (count : ℕ) (within : count ≤ length rules) (k :
       sym (appended_all_append u rule_results merge_results) ∙ ap (appended_all u) (sym steps_are)
       ∙ ap (λ p. appended_all u (steps_from (rules_in rules count) k p)) e
 
-  module _ (table keys : List ℕ) (n : ℕ) (holds : HoldsMembers (appended_all u rule_results) table keys n) where
-    -- the rules alone lead to more than are allowed
-    pub rules_over : most_members < n → HoldsMembers all_results table keys n
-    rules_over l =
-        let g : length (appended_all u rule_results) ≤ length all_results =
-        subst (λ x. length (appended_all u rule_results) ≤ length x) all_steps
-        (extends_length (appended_all u rule_results) _ (appended_all_extends (appended_all u rule_results) merge_results)) in
-        let h = holds.many l in
-        record { found = λ x. absurd (omega arith); union_is = λ x. absurd (omega arith); many = λ x. omega arith }
+  -- the rules alone lead to more than are allowed
+  pub rules_over : (refusal : Refusal) → TooMany (appended_all u rule_results) refusal → TooMany all_results refusal
+  rules_over refusal over =
+      let g : length (appended_all u rule_results) ≤ length all_results =
+      subst (λ x. length (appended_all u rule_results) ≤ length x) all_steps
+      (extends_length (appended_all u rule_results) _ (appended_all_extends (appended_all u rule_results) merge_results)) in
+      let h = over.many in
+      record { number_is = over.number_is; many = omega arith }
 
-    pub then_merges : (later later-keys : List ℕ) (o : ℕ) → n ≤ most_members
-        → HoldsMembers (appended_all (union_in table n) merge_results) later later-keys o → HoldsMembers all_results later later-keys o
-    then_merges later later-keys o l =
-        subst (λ x. HoldsMembers x later later-keys o) (ap (λ x. appended_all x merge_results) (holds.union_is l) ∙ all_steps)
+  pub then_merges : (table keys : List ℕ) (n : ℕ) → Held (appended_all u rule_results) table keys n
+      → (later later-keys : List ℕ) (m : Result ℕ Refusal)
+      → Appended (appended_all (union_in table n) merge_results) later later-keys m → Appended all_results later later-keys m
+  then_merges table keys n held later later-keys m =
+      subst (λ x. Appended x later later-keys m) (ap (λ x. appended_all x merge_results) held.union_is ∙ all_steps)
 
 -- ---- the members in order
 
@@ -78,54 +81,71 @@ module _ (rules : List Rule) (q : Query) where
     pub within : k ≤ n
 
   module _ (before before-keys : List ℕ) (n k : ℕ) (now : MembersTaken k before before-keys n) where
-    pub taken_all : n ≤ k → HoldsUnion (written_union most_members rules q) before n
+    pub taken_all : n ≤ k → Held (written_union most_members rules q) before before-keys n
     unfolding written_union
     taken_all g =
         let few = now.found.few in
         let h = now.within in
         let a : length (grown rules q k) ≡ n = ap length (sym now.union_is) ∙ members_length before n in
-        record {
-          rows = λ x. now.found.rows;
-          union_is = λ x. now.union_is ∙ sym (grown_same rules q k most_members (omega arith) (omega arith));
-          many = λ x. absurd (omega arith);
-        }
+        record { found = now.found; union_is = now.union_is ∙ sym (grown_same rules q k most_members (omega arith) (omega arith)) }
 
-    module _ (table keys : List ℕ) (m : ℕ)
-        (holds : HoldsMembers (with_steps_of rules k (some (member_in before k)) (union_in before n)) table keys m) (h : k < n) where
+    module _ (h : k < n) where
       one_more : with_steps_of rules k (some (member_in before k)) (union_in before n) ≡ grown rules q (k + 1)
       unfolding grown
       one_more =
           ap (λ o. with_steps_of rules k o (union_in before n)) (sym (union_at before n k h))
           ∙ ap (λ (u : UCQ). with_steps_of rules k (get_elem? u k) u) now.union_is ∙ ap (grown rules q) (sym (add-one k))
 
-      -- members are not lost
-      kept_within : m ≤ most_members → k + 1 ≤ m
-      unfolding with_steps_of
-      kept_within l =
-          let g : length (union_in before n) ≤ length (union_in table m) =
-          subst (λ (u : UCQ). length (union_in before n) ≤ length u) (sym (holds.union_is l))
-          (extends_length (union_in before n) _
-          (appended_all_extends (union_in before n) (steps_from rules k (member_in before k).query))) in
-          let a = members_length before n in
-          let b = members_length table m in
-          omega arith
+      module _ (table keys : List ℕ) (m : ℕ)
+          (held : Held (with_steps_of rules k (some (member_in before k)) (union_in before n)) table keys m) where
+        -- members are not lost
+        kept_within : k + 1 ≤ m
+        unfolding with_steps_of
+        kept_within =
+            let g : length (union_in before n) ≤ length (union_in table m) =
+            subst (λ (u : UCQ). length (union_in before n) ≤ length u) (sym held.union_is)
+            (extends_length (union_in before n) _
+            (appended_all_extends (union_in before n) (steps_from rules k (member_in before k).query))) in
+            let a = members_length before n in
+            let b = members_length table m in
+            omega arith
 
-      pub taken_next : m ≤ most_members → MembersTaken (k + 1) table keys m
-      taken_next l = record { found = holds.found l; union_is = holds.union_is l ∙ one_more; within = kept_within l }
+        pub taken_next : MembersTaken (k + 1) table keys m
+        taken_next = record { found = held.found; union_is = held.union_is ∙ one_more; within = kept_within }
 
-      pub taken_stop : most_members < m → HoldsUnion (written_union most_members rules q) table m
+      pub taken_stop : (refusal : Refusal)
+          → TooMany (with_steps_of rules k (some (member_in before k)) (union_in before n)) refusal
+          → TooMany (written_union most_members rules q) refusal
       unfolding written_union
-      taken_stop l = record {
-        rows = λ x. absurd (omega arith);
-        union_is = λ x. absurd (omega arith);
-        many = λ x.
+      taken_stop refusal over = record {
+        number_is = over.number_is;
+        many =
             (let few = now.found.few in
             let g : length (grown rules q (k + 1)) ≤ length (grown rules q most_members) =
             extends_length (grown rules q (k + 1)) (grown rules q most_members)
             (grown_extends rules q (k + 1) most_members (omega arith)) in
-            let a : most_members < length (grown rules q (k + 1)) = subst (λ (u : UCQ). most_members < length u) one_more (holds.many l) in
+            let a : most_members < length (grown rules q (k + 1)) = subst (λ (u : UCQ). most_members < length u) one_more over.many in
             omega arith);
       }
+
+-- what was appended, without the keys
+holds_union : (union : UCQ) (table keys : List ℕ) (m : Result ℕ Refusal) → Appended union table keys m
+    → HoldsUnion union table (members_in m)
+holds_union union table keys (Ok n) held = record {
+  rows = λ x. held.found.rows;
+  union_is = λ x. held.union_is;
+  many = λ x. (let few = held.found.few in absurd (omega arith));
+}
+holds_union union table keys (Err refusal) over = record {
+  rows = λ x. absurd (omega arith);
+  union_is = λ x. absurd (omega arith);
+  many = λ x. over.many;
+}
+
+pub few_or_fifteen : (union : UCQ) (table keys : List ℕ) (m : Result ℕ Refusal) → Appended union table keys m
+    → MatchResult m (λ n. n ≤ most_members) (λ refusal. code refusal ≡ 15)
+few_or_fifteen union table keys (Ok n) held = held.found.few
+few_or_fifteen union table keys (Err refusal) over = over.number_is
 
 -- member 0 alone
 pub taken_begin : (rules : List Rule) (table keys : List ℕ) → MembersFound table keys 1 → (member_in table 0).step ≡ step_of 0
@@ -152,7 +172,7 @@ module _ (table keys later row : List ℕ) (q : QueryWords) (r : RowOf (record {
   pub first_found : (v : ℕ) → most_members ≤ length keys → Small q → Unrepeated (query_of q).atoms → v ≡ key (query_of q)
       → MembersFound later (set keys 0 v) 1
   first_found v l s u k =
-      (holds_longer table keys 0 (none_yet l) q 0 (omega arith) s u row r later v e k).found (omega arith)
+      (holds_longer table keys 0 (none_yet l) q 0 (omega arith) s u row r later v e k).found
 
   first_is : member_in later 0 ≡ record { step = step_of 0; query = query_of q }
   first_is =
@@ -163,14 +183,15 @@ module _ (table keys later row : List ℕ) (q : QueryWords) (r : RowOf (record {
   pub first_step : (member_in later 0).step ≡ step_of 0
   first_step = ap (λ (m : Member). m.step) first_is
 
-  pub first_asked : (rules : List Rule) (written : List ℕ) (m : ℕ)
-      → HoldsUnion (written_union most_members rules (member_in later 0).query) written m
-      → HoldsUnion (written_union most_members rules (query_of q)) written m
-  first_asked rules written m h =
-      subst (λ (x : Member). HoldsUnion (written_union most_members rules x.query) written m) first_is h
+  pub first_asked : (rules : List Rule) (written written-keys : List ℕ) (m : Result ℕ Refusal)
+      → Appended (written_union most_members rules (member_in later 0).query) written written-keys m
+      → HoldsUnion (written_union most_members rules (query_of q)) written (members_in m)
+  first_asked rules written written-keys m h =
+      let P : Member → Type 0 = λ x. HoldsUnion (written_union most_members rules x.query) written (members_in m) in
+      subst P first_is (holds_union (written_union most_members rules (member_in later 0).query) written written-keys m h)
 
-pub ruleset member_steps = (rules, holds_found, found_few, rows, found_rows, rules_over, then_merges)
+pub ruleset member_steps = (rules, found_few, rows, found_rows, rules_over, then_merges)
 
 pub ruleset member_loop = (rules, found_few, taken_begin, taken_all, taken_next, taken_stop)
 
-pub ruleset first_member = (rules, first_found, first_step, first_asked)
+pub ruleset first_member = (rules, first_found, first_step, first_asked, few_or_fifteen)

@@ -23,10 +23,8 @@ pub fn union_length(table: &[u64], n: usize) -> usize
     ensures { (result ≡ length (pack_union sheet_width (union_in table.now n))) × (result ≤ most_union_bytes sheet_width) }
 {
     let mut total: usize = COUNT_BYTES;
-    let mut j: usize = 0;
-    while j < n {
+    for j in 0..n {
         total += STEP_BYTES + packed_length(load(table, j));
-        j += 1;
     }
     total
 }
@@ -52,10 +50,8 @@ fn put_members(table: &[u64], n: usize, sheet: &mut [u8]) -> usize
         × (result ≡ count_bytes + length (members_bytes table.now n)) }
 {
     let mut at: usize = COUNT_BYTES;
-    let mut j: usize = 0;
-    while j < n {
+    for j in 0..n {
         at = put_member(table, j, sheet, at);
-        j += 1;
     }
     at
 }

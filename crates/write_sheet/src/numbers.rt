@@ -35,9 +35,7 @@ pub fn put_number(sheet: &mut [u8], at: usize, size: usize, number: u64)
     ensures { sheet.new ≡ put_at sheet.old at (bytes_of size number) }
 {
     let mut rest = number;
-    let mut k = size;
-    while 0 < k {
-        k -= 1;
+    for k in (0..size).rev() {
         sheet[at + k] = (rest % 256) as u8;
         rest /= 256;
     }

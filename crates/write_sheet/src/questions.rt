@@ -22,10 +22,8 @@ fn put_answers(sheet: &mut [u8], at: usize, answers: [u64; MOST_TERMS], n: usize
     requires { (n ≤ most_terms) × TermWords answers × (at + answer_bytes sheet_width * n ≤ length sheet.old) }
     ensures { sheet.new ≡ put_at sheet.old at (answers_bytes sheet_width (map word_term (take n answers))) }
 {
-    let mut i: usize = 0;
-    while i < n {
+    for i in 0..n {
         put_answer(sheet, at + ANSWER_BYTES * i, answers[i]);
-        i += 1;
     }
 }
 
@@ -34,10 +32,8 @@ fn put_atoms(sheet: &mut [u8], at: usize, atoms: [u64; MOST_ATOMS], n: usize)
     requires { (n ≤ most_atoms) × (at + record_bytes sheet_width * n ≤ length sheet.old) }
     ensures { sheet.new ≡ put_at sheet.old at (atoms_bytes sheet_width (map word_atom (take n atoms))) }
 {
-    let mut i: usize = 0;
-    while i < n {
+    for i in 0..n {
         put_atom(sheet, at + ATOM_BYTES * i, atoms[i]);
-        i += 1;
     }
 }
 

@@ -1,18 +1,29 @@
 -- What writing gives once rules and question are read: the union, or 15, and else 16.
-use Rattle.std.specs.Prelude.{◌≡◌, ℕ, List, ltb, length}
+use Rattle.std.specs.Prelude.{◌≡◌, ℕ, List, ltb, length, Result, Ok, Err}
 use Rattle.std.proofs.Math.Option.{Option, or_else}
 use Rattle.theory.specs.Lists.{guard}
 use Rattle.theory.specs.Syntax.{UCQ}
 use Rattle.words.specs.Limits.{sheet_width, most_members}
+use Rattle.words.specs.Refusals.{number_in}
+use Rattle.words.specs.declared.refusals.Refusal.{Refusal}
 use Rattle.sheets.specs.Packing.{pack_union}
 use Rattle.promises.specs.Writing.{WriteOutcome, write_outcome_by}
 use Rattle.write_stage.specs.declared.Written.{Written}
 
+-- how many members, and how many bytes, a call wrote
+abbrev pub count_written : Result Written Refusal → ℕ
+count_written (Ok w) = w.count
+count_written (Err refusal) = 0
+
+abbrev pub size_written : Result Written Refusal → ℕ
+size_written (Ok w) = w.length
+size_written (Err refusal) = 0
+
 -- the call gives this outcome
-pub record GivesOutcome (outcome : WriteOutcome) (r : Written) (sheet : List ℕ) : Type 0 where
-  pub number_is : r.number ≡ outcome.number
-  pub count_is : r.count ≡ outcome.count
-  pub size_is : r.length ≡ outcome.size
+pub record GivesOutcome (outcome : WriteOutcome) (r : Result Written Refusal) (sheet : List ℕ) : Type 0 where
+  pub number_is : number_in r ≡ outcome.number
+  pub count_is : count_written r ≡ outcome.count
+  pub size_is : size_written r ≡ outcome.size
   pub sheet_is : sheet ≡ outcome.sheet
 
 -- 15, and else 16
@@ -21,5 +32,5 @@ refusal_of_union union room = or_else (guard (ltb most_members (length union)) 1
     (guard (ltb room (length (pack_union sheet_width union))) 16)
 
 -- from rules and question that were read
-abbrev pub GivesUnion : UCQ → ℕ → Written → List ℕ → Type 0
+abbrev pub GivesUnion : UCQ → ℕ → Result Written Refusal → List ℕ → Type 0
 GivesUnion union room r sheet = GivesOutcome (write_outcome_by room union (refusal_of_union union room)) r sheet

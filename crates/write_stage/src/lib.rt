@@ -10,51 +10,41 @@ ghost use Rattle.write_stage.specs.Stage.{GivesUnion};
 
 use answer_bytes::moves::clear;
 use words::QueryWords;
-use words::limits::{MOST_MEMBERS, TABLE_WORDS};
+use words::limits::TABLE_WORDS;
+use words::refusals::Refusal;
 use write_members::write_members;
 use write_sheet::{put_union, union_length};
 
-// What a call that writes a union gives beside the sheet: the number of its refusal, or 0, how many members there are, and how many bytes.
-#[repr(C)]
+// What a call that writes a union gives beside the sheet: how many members there are, and how many bytes.
 #[derive(Clone, Copy)]
 pub struct Written {
-    pub number: u32,
-    pub count: u64,
-    pub length: u64,
+    pub count: usize,
+    pub length: usize,
 }
 
-// A refusal: its number, count and length 0, and zeros in the whole sheet.
-pub fn refuse_writing(number: u32, sheet: &mut [u8]) -> Written
-    ensures { (result.number ≡ number) × (result.count ≡ 0) × (result.length ≡ 0)
-        × (sheet.new ≡ replicate (length sheet.old) 0) }
+// A refusal, with zeros in the whole sheet.
+pub fn refuse_writing(refusal: Refusal, sheet: &mut [u8]) -> Result<Written, Refusal>
+    ensures { (result ≡ Err refusal) × (sheet.new ≡ replicate (length sheet.old) 0) }
 {
     clear(sheet);
-    Written {
-        number,
-        count: 0,
-        length: 0,
-    }
+    Err(refusal)
 }
 
 // The union of rules and question that were read, with zeros after it; or 15, and else 16.
-pub fn write_read(rules: &[u64], count: usize, q: QueryWords, sheet: &mut [u8]) -> Written
-    requires { (count ≤ length rules.now) × (count ≤ most_rules) × Small q × Unrepeated (query_of q).atoms }
-    ensures { GivesUnion (written_union most_members (rules_in rules.now count) (query_of q)) (length sheet.old) result
+pub fn write_read(rules: &[u64], q: QueryWords, sheet: &mut [u8]) -> Result<Written, Refusal>
+    requires { (length rules.now ≤ most_rules) × Small q × Unrepeated (query_of q).atoms }
+    ensures { GivesUnion (written_union most_members (rules_in rules.now (length rules.now)) (query_of q)) (length sheet.old) result
         sheet.new }
 {
     let mut table = [0u64; TABLE_WORDS];
-    let members = write_members(rules, count, q, &mut table);
-    if members > MOST_MEMBERS {
-        return refuse_writing(15, sheet);
+    let count = match write_members(rules, q, &mut table) {
+        Ok(count) => count,
+        Err(refusal) => return refuse_writing(refusal, sheet),
+    };
+    let length = union_length(&table, count);
+    if sheet.len() < length {
+        return refuse_writing(Refusal::SheetTooShort, sheet);
     }
-    let size = union_length(&table, members);
-    if sheet.len() < size {
-        return refuse_writing(16, sheet);
-    }
-    put_union(&table, members, sheet);
-    Written {
-        number: 0,
-        count: members as u64,
-        length: size as u64,
-    }
+    put_union(&table, count, sheet);
+    Ok(Written { count, length })
 }

@@ -1,5 +1,4 @@
 use mathlib.Core.Path.{◌≡◌}
-use Prim.Native.Nat.{◌≤◌, ◌-◌}
 use Rattle.theory.specs.Syntax.{same_term}
 use Rattle.theory.specs.Laws.Scans.{all_from}
 use Rattle.words.specs.Words.{word_term}

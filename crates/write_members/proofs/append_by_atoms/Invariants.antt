@@ -1,5 +1,4 @@
 use mathlib.Core.Path.{◌≡◌}
-use Prim.Native.Nat.{◌-◌, ◌≤◌}
 use mathlib.Core.List.{flat_map}
 use lib.ListN.{length}
 use Rattle.theory.specs.Lists.{numbers}
@@ -10,11 +9,8 @@ use Rattle.write_members.proofs.append_by_atoms.Given as goal
 
 abbrev pub invariant-loop-i : goal.invariant-loop-i
 invariant-loop-i l =
-    (l.i ≤ l.q.size) × (length l.table ≡ length l.initial.table) × (length l.keys ≡ length l.initial.keys)
-    × AtomsLeft (rules_in l.rules l.count) l.count l.parent (query_of l.q) l.q.size
+    (length l.table ≡ length l.initial.table) × (length l.keys ≡ length l.initial.keys)
+    × AtomsLeft (rules_in l.rules (length l.rules)) (length l.rules) l.parent (query_of l.q) l.q.size
     (appended_all (union_in l.initial.table l.n)
-    (flat_map (λ i. flat_map (by_rule (rules_in l.rules l.count) l.parent (query_of l.q) i) (numbers 0 l.count)) (numbers 0 l.q.size)))
+    (flat_map (λ i. flat_map (by_rule (rules_in l.rules (length l.rules)) l.parent (query_of l.q) i) (numbers 0 (length l.rules))) (numbers 0 l.q.size)))
     l.i l.table l.keys l.members
-
-abbrev pub decreases-loop-i : goal.decreases-loop-i
-decreases-loop-i l = l.q.size - l.i

@@ -1,5 +1,4 @@
 use mathlib.Core.Path.{◌≡◌}
-use Prim.Native.Nat.{◌-◌, ◌≤◌}
 use mathlib.Core.List.{flat_map}
 use lib.ListN.{length}
 use Rattle.theory.specs.Lists.{numbers}
@@ -10,10 +9,7 @@ use Rattle.write_members.proofs.append_by_merges.Given as goal
 
 abbrev pub invariant-loop-i : goal.invariant-loop-i
 invariant-loop-i l =
-    (l.i ≤ l.q.size) × (length l.table ≡ length l.initial.table) × (length l.keys ≡ length l.initial.keys)
+    (length l.table ≡ length l.initial.table) × (length l.keys ≡ length l.initial.keys)
     × PairsLeft l.parent (query_of l.q) l.q.size
     (appended_all (union_in l.initial.table l.n)
     (flat_map (λ i. flat_map (by_merge l.parent (query_of l.q) i) (numbers 0 l.q.size)) (numbers 0 l.q.size))) l.i l.table l.keys l.members
-
-abbrev pub decreases-loop-i : goal.decreases-loop-i
-decreases-loop-i l = l.q.size - l.i

@@ -1,5 +1,4 @@
 use mathlib.Core.Path.{◌≡◌}
-use Prim.Native.Nat.{◌-◌, ◌≤◌}
 use mathlib.Core.List.{flat_map}
 use lib.ListN.{length}
 use Rattle.theory.specs.Lists.{numbers}
@@ -10,10 +9,7 @@ use Rattle.write_members.proofs.append_by_rules.Given as goal
 
 abbrev pub invariant-loop-k : goal.invariant-loop-k
 invariant-loop-k l =
-    (l.k ≤ l.count) × (length l.table ≡ length l.initial.table) × (length l.keys ≡ length l.initial.keys)
-    × RulesLeft (rules_in l.rules l.count) l.count l.parent (query_of l.q) l.i
+    (length l.table ≡ length l.initial.table) × (length l.keys ≡ length l.initial.keys)
+    × RulesLeft (rules_in l.rules (length l.rules)) (length l.rules) l.parent (query_of l.q) l.i
     (appended_all (union_in l.initial.table l.n)
-    (flat_map (by_rule (rules_in l.rules l.count) l.parent (query_of l.q) l.i) (numbers 0 l.count))) l.k l.table l.keys l.members
-
-abbrev pub decreases-loop-k : goal.decreases-loop-k
-decreases-loop-k l = l.count - l.k
+    (flat_map (by_rule (rules_in l.rules (length l.rules)) l.parent (query_of l.q) l.i) (numbers 0 (length l.rules)))) l.k l.table l.keys l.members

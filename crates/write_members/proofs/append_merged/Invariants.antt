@@ -1,5 +1,4 @@
 use mathlib.Core.Path.{◌≡◌}
-use Prim.Native.Nat.{◌-◌, ◌≤◌}
 use mathlib.Core.List.{flat_map}
 use lib.ListN.{length}
 use Rattle.theory.specs.Lists.{numbers}
@@ -10,10 +9,7 @@ use Rattle.write_members.proofs.append_merged.Given as goal
 
 abbrev pub invariant-loop-j : goal.invariant-loop-j
 invariant-loop-j l =
-    (l.j ≤ l.q.size) × (length l.table ≡ length l.initial.table) × (length l.keys ≡ length l.initial.keys)
+    (length l.table ≡ length l.initial.table) × (length l.keys ≡ length l.initial.keys)
     × LaterLeft l.parent l.q l.i l.q.size
     (appended_all (union_in l.initial.table l.n)
     (flat_map (by_merge l.parent (query_of l.q) l.i) (numbers 0 l.q.size))) l.j l.table l.keys l.members
-
-abbrev pub decreases-loop-j : goal.decreases-loop-j
-decreases-loop-j l = l.q.size - l.j

@@ -1,35 +1,16 @@
+use Rattle.std.proofs.lemmas.Result.{err_from_is_err_and}
 use Rattle.write_members.proofs.TakeLaws.{member_loop}
 use Rattle.write_members.proofs.take_members.Goals as goal
 
 pub loop-k-init : goal.loop-k-init
 loop-k-init c = search member_loop
 
-pub append_steps-members-requires : goal.append_steps-members-requires
-append_steps-members-requires c = search member_loop
-
-pub shape_of-table-then-members-gt-MOST_MEMBERS : goal.shape_of-table-then-members-gt-MOST_MEMBERS
-shape_of-table-then-members-gt-MOST_MEMBERS c = search member_loop
-
-pub shape_of-keys-then-members-gt-MOST_MEMBERS : goal.shape_of-keys-then-members-gt-MOST_MEMBERS
-shape_of-keys-then-members-gt-MOST_MEMBERS c = search member_loop
-
-pub returns-then-members-gt-MOST_MEMBERS : goal.returns-then-members-gt-MOST_MEMBERS
-returns-then-members-gt-MOST_MEMBERS c = search member_loop
-
-pub overflow_add-k : goal.overflow_add-k
-overflow_add-k c = search member_loop
-
-pub loop-k-smaller : goal.loop-k-smaller
-loop-k-smaller c = search member_loop
+pub returns-in_err-members : goal.returns-in_err-members
+returns-in_err-members c =
+    let p = err_from_is_err_and c.from_residual.result c.from_residual.ensures.1 in rw (p.1, p.2) (search (member_loop, c.in_err-members.ensures))
 
 pub loop-k-preserved : goal.loop-k-preserved
-loop-k-preserved c = search member_loop
-
-pub shape_of-table : goal.shape_of-table
-shape_of-table c = search member_loop
-
-pub shape_of-keys : goal.shape_of-keys
-shape_of-keys c = search member_loop
+loop-k-preserved c = search (member_loop, c.in_ok-members.ensures)
 
 pub returns : goal.returns
 returns c = search member_loop

@@ -10,7 +10,7 @@ use Rattle.write_members.proofs.take_members.Given as goal
 abbrev pub invariant-loop-k : goal.invariant-loop-k
 invariant-loop-k l =
     (l.members ≤ most_members) × (length l.table ≡ length l.initial.table) × (length l.keys ≡ length l.initial.keys)
-    × MembersTaken (rules_in l.rules l.count) (member_in l.initial.table 0).query l.k l.table l.keys l.members
+    × MembersTaken (rules_in l.rules (length l.rules)) (member_in l.initial.table 0).query l.k l.table l.keys l.members
 
 abbrev pub decreases-loop-k : goal.decreases-loop-k
 decreases-loop-k l = most_members - l.k

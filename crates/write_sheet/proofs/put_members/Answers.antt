@@ -7,17 +7,8 @@ loop-j-init c = search loop_laws
 pub put_member-at-requires : goal.put_member-at-requires
 put_member-at-requires c = search loop_laws
 
-pub overflow_add-j : goal.overflow_add-j
-overflow_add-j c = search loop_laws
-
-pub loop-j-smaller : goal.loop-j-smaller
-loop-j-smaller c = search loop_laws
-
 pub loop-j-preserved : goal.loop-j-preserved
 loop-j-preserved c = search loop_laws
-
-pub shape_of-sheet : goal.shape_of-sheet
-shape_of-sheet c = search loop_laws
 
 pub returns : goal.returns
 returns c = search loop_laws

@@ -13,14 +13,5 @@ slice_bounds-clear-count c = search laws
 pub slice_bounds-clear-start : goal.slice_bounds-clear-start
 slice_bounds-clear-start c = search laws
 
-pub slice_bounds-clear-end : goal.slice_bounds-clear-end
-slice_bounds-clear-end c = search laws
-
-pub clear-requires : goal.clear-requires
-clear-requires c = search laws
-
-pub shape_of-sheet : goal.shape_of-sheet
-shape_of-sheet c = search laws
-
 pub returns : goal.returns
 returns c = search laws

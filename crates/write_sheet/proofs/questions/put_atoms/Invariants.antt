@@ -1,6 +1,6 @@
 -- The loop's invariant: the atoms that are left, put where they belong, make the sheet that is promised.
 use mathlib.Core.List.{map}
-use Prim.Native.Nat.{◌+◌, ◌-◌, ◌*◌, ◌≤◌}
+use Prim.Native.Nat.{◌+◌, ◌*◌}
 use lib.ListN.{take}
 use Rattle.words.specs.Limits.{sheet_width, record_bytes}
 use Rattle.words.specs.Words.{word_atom}
@@ -11,10 +11,6 @@ use Rattle.write_sheet.proofs.questions.put_atoms.Given as goal
 
 abbrev pub invariant-loop-i : goal.invariant-loop-i
 invariant-loop-i l =
-    (l.i ≤ l.n)
-    × Remaining l.initial.sheet l.at (atoms_bytes sheet_width (map word_atom (take l.n l.atoms))) l.sheet
+    Remaining l.initial.sheet l.at (atoms_bytes sheet_width (map word_atom (take l.n l.atoms))) l.sheet
     (l.at + record_bytes sheet_width * l.i)
     (atoms_from l.atoms l.n l.i)
-
-abbrev pub decreases-loop-i : goal.decreases-loop-i
-decreases-loop-i l = l.n - l.i
