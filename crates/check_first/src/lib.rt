@@ -27,7 +27,8 @@ fn equal_terms(a: [u64; MOST_TERMS], b: [u64; MOST_TERMS], n: usize) -> bool
     true
 }
 
-// Whether the first n words of two arrays are the same atoms.
+// Whether the first n words of two arrays are the same atoms. Beside the loop over terms, since a closure for the test would need a
+// `requires` for term words that atoms do not have.
 fn equal_atoms(a: [u64; MOST_ATOMS], b: [u64; MOST_ATOMS], n: usize) -> bool
     requires { n ≤ most_atoms }
     ensures { result ≡ pairwise same_atom (map word_atom (take n a)) (map word_atom (take n b)) }

@@ -31,7 +31,7 @@ fn found(word: u64, words: &[u64], n: usize, chains: &[u16]) -> bool
     false
 }
 
-// Takes rule k into the words, unless it is found among them. The number of words then.
+// Takes rule k into the words, unless it is found among them. The number of words then, beside a table that is lent: there is no heap.
 fn take(rules: &[u64], k: usize, words: &mut [u64], m: usize, chains: &mut [u16]) -> usize
     requires { (k < length rules.now) × (k < places) × (places ≤ length words.old) × (length chains.old ≡ index_words)
         × SameWords rules.now k words.old m }

@@ -229,7 +229,7 @@ fn take_members(rules: &[u64], table: &mut [u64], keys: &mut [u64]) -> Result<us
 {
     let mut members: usize = 1;
     let mut k: usize = 0;
-    // the number of members grows
+    // a `while`: the number of members grows
     while k < members {
         members = append_steps(rules, k, table, members, keys)?;
         k += 1;

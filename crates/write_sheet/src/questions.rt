@@ -27,7 +27,8 @@ fn put_answers(sheet: &mut [u8], at: usize, answers: [u64; MOST_TERMS], n: usize
     }
 }
 
-// Puts the first n atoms at `at`.
+// Puts the first n atoms at `at`. Beside the loop over answer terms, since a closure for what is put would need a `requires` for term
+// words that atoms do not have.
 fn put_atoms(sheet: &mut [u8], at: usize, atoms: [u64; MOST_ATOMS], n: usize)
     requires { (n ≤ most_atoms) × (at + record_bytes sheet_width * n ≤ length sheet.old) }
     ensures { sheet.new ≡ put_at sheet.old at (atoms_bytes sheet_width (map word_atom (take n atoms))) }
