@@ -31,6 +31,10 @@ pub record Chains (words : List ℕ) (n : ℕ) (index : List ℕ) : Type 0 where
 abbrev pub index_words : ℕ
 index_words = 1024
 
+-- a full index of all of these words
+abbrev pub Indexes : List ℕ → List ℕ → Type 0
+Indexes words index = Chains words (length words) index × (index_words ≤ length index)
+
 -- an index of no words
 pub record Cleared (index : List ℕ) : Type 0 where
   pub long : length index ≡ index_words

@@ -3,7 +3,7 @@
 
 ghost use Rattle.std.specs.Prelude.{◌≡◌, ◌+◌, ◌≤◌, ◌<◌, length, get_or, set, IfSome};
 ghost use Rattle.std.proofs.Props.{props};
-ghost use Rattle.check_chains.specs.Chains.{places, place_of, index_words, after, Last, Chains, Cleared};
+ghost use Rattle.check_chains.specs.Chains.{places, place_of, index_words, after, Last, Chains, Indexes, Cleared};
 
 // How many places there are; an index has one number for each place, and one for each word.
 pub const PLACES: usize = 512;
@@ -18,7 +18,7 @@ pub const MANY: usize = 16;
 pub struct Chained<'a> {
     pub words: &'a [u64],
     pub index: Option<&'a [u16]>,
-    pub ghost indexed: { IfSome index (λ x. Chains words.now (length words.now) x.now × (index_words ≤ length x.now)) } by { Prim.hlevel props },
+    pub ghost indexed: { IfSome index (λ numbers. Indexes words.now numbers.now) } by { Prim.hlevel props },
 }
 
 // The place of a word.
