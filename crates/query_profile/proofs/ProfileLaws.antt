@@ -35,7 +35,7 @@ use Rattle.query_variables.specs.UsedVariables.{AddsVariables}
 use Rattle.query_partial.specs.Partial.{same_predicate}
 use Rattle.query_profile.specs.Gathered.{stands_in, Gathers}
 
--- ---- a list that goes one_to_one into another is no longer
+-- ---- a list that goes one-to-one into another is no longer
 
 injected : {X Y : Type 0} (f : X → Y) (xs : List X) (ys : List Y) → Unrepeated xs → ((x : X) → x ∈ xs → f x ∈ ys)
     → ((x z : X) → x ∈ xs → z ∈ xs → f x ≡ f z → x ≡ z) → length xs ≤ length ys

@@ -174,7 +174,14 @@ module _ (x a : ℕ) where
         pub bears_first : f ≡ 1 → b ≡ unbound q (word_term u) → o ≡ then_some b t → term_found o ≡ bearer q (right_of x) (word_atom a)
         unfolding bearer
         bears_first g i r =
-            rw (r, found_where b t) (simp i (sym (simp (basic_has (right_form x) (right_name x) (sym fx ∙ g), described_role, tests.0, sym e, sym d))))
+            rw (r, found_where b t) (simp i (sym (simp (
+              basic_has (right_form x) (right_name x) (sym fx
+                  ∙ g),
+              described_role,
+              tests.0,
+              sym e,
+              sym d,
+            ))))
 
         pub bears_second : (f ≡ 1 → ⊥) → b ≡ unbound q (word_term t) → o ≡ then_some b u
             → term_found o ≡ bearer q (right_of x) (word_atom a)

@@ -93,7 +93,8 @@ module _ (p : List ℕ) (k x kind : ℕ) (is : kind ≡ rule_kind x) where
   module _ (two : kind ≡ 2) (l a : ℕ) (s : Bool) (el : l ≡ left_name x) (ea : a ≡ lower p l) (es : s ≡ is_helper k a) where
     pub first_role : s ≡ true → s ≡ clashing k (record_roles p x)
     first_role t =
-        let h = two_roles two l (right_name x) a (lower p (right_name x)) s (is_helper k (lower p (right_name x))) el refl ea refl es refl in
+        let h = two_roles two l (right_name x) a (lower p (right_name x)) s (is_helper k (lower p
+        (right_name x))) el refl ea refl es refl in
         t ∙ rw t at h
 
     pub second_role : s ≡ false → (r b : ℕ) (t : Bool) → r ≡ right_name x → b ≡ lower p r → t ≡ is_helper k b

@@ -84,7 +84,8 @@ among a (b ∷ atoms) = ap (λ r. same_atom (word_atom a) (word_atom b) || r) (a
 
 module _ (atoms : List ℕ) (i : ℕ) (r : Bool) (so_far : repeats (map word_atom (drop i atoms)) ≡ r) where
   next : i < length atoms
-      → (any (same_atom (word_atom (get_or atoms i 0))) (map word_atom (drop (i + 1) atoms)) || repeats (map word_atom (drop (i + 1) atoms))) ≡ r
+      → (any (same_atom (word_atom (get_or atoms i 0))) (map word_atom (drop (i + 1) atoms)) || repeats (map word_atom (drop
+      (i + 1) atoms))) ≡ r
   unfolding repeats
   next h = rw add-one (sym (ap (λ l. repeats (map word_atom l)) (drop-cons atoms i 0 h)) ∙ so_far)
 

@@ -99,17 +99,17 @@ module _ (p s : List ℕ) (arity count at j : ℕ) (begins : at ≡ member_start
     pub next_sound : SoundBelow p arity s j → SoundBelow p arity s (j + 1)
     next_sound below = below_more (λ i. T (member_sound p sheet_width arity s i)) j below (subst T sound_here parts.1)
 
-and-true : (a b : Bool) → T b → a ≡ a && b
-and-true true true t = refl
-and-true true false t = absurd t
-and-true false b t = refl
+and_true : (a b : Bool) → T b → a ≡ a && b
+and_true true true t = refl
+and_true true false t = absurd t
+and_true false b t = refl
 
 pub all_sound : (p s : List ℕ) (arity count at j : ℕ) → at ≡ member_start sheet_width s j → SoundBelow p arity s j → j ≤ count → count ≤ j
     → eqb at (length s) ≡ (eqb (member_start sheet_width s count) (length s) && all (member_sound p sheet_width arity s) (numbers 0 count))
 all_sound p s arity count at j e below h k =
     let d : j ≡ count = omega arith in
     ap (λ a. eqb a (length s)) (e ∙ ap (member_start sheet_width s) d)
-    ∙ and-true (eqb (member_start sheet_width s count) (length s)) (all (member_sound p sheet_width arity s) (numbers 0 count))
+    ∙ and_true (eqb (member_start sheet_width s count) (length s)) (all (member_sound p sheet_width arity s) (numbers 0 count))
     ((all_iff (member_sound p sheet_width arity s) (numbers 0 count)).1
     (λ i m. below i (let l : i < count = (numbers_iff count i).0 m in omega arith)))
 

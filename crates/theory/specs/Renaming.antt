@@ -1,11 +1,11 @@
--- 01: alike. "Two questions are alike if a one_to_one renaming of variables carries answer terms to answer terms in order and
+-- 01: alike. "Two questions are alike if a one-to-one renaming of variables carries answer terms to answer terms in order and
 -- the set of atoms to the set of atoms": the meaning, and a search that decides it.
 use Rattle.std.specs.Prelude.{◌≡◌, ℕ, Bool, true, false, not, ◌&&◌, List, [], ◌∷◌, map, eqb, ltb}
 use Rattle.std.proofs.Math.Option.{Option, none, some}
 use Rattle.theory.specs.Lists.{◌∈◌, pick, any, all, without, pairwise, first_some, is_some, Pairs, lookup}
 use Rattle.theory.specs.Syntax.{Term, var, const, Atom, Query, terms, map_atom, rename, on_atoms}
 
--- A one_to_one renaming of the variables of p that carries p to q. Variables that do not stand in p do not matter.
+-- A one-to-one renaming of the variables of p that carries p to q. Variables that do not stand in p do not matter.
 pub record Alike (p q : Query) : Type 0 where
   pub to : ℕ → ℕ
   pub one_to_one : (u v : ℕ) → var u ∈ terms p → var v ∈ terms p → to u ≡ to v → u ≡ v

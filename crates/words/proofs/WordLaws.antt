@@ -143,7 +143,13 @@ module _ (a t f : ℕ) (b : Bool) (fa : f ≡ word_first a) (h : b ≡ same_term
 
   pub stands_nowhere : (k : ℕ) → b ≡ false → k ≡ word_kind a → k ≡ 0
       → not (eqb k 0) ≡ any (same_term (word_term t)) (args (word_atom a))
-  stands_nowhere k e ka z = ap not (eq-eqb k 0 z) ∙ sym (some_place (same_term (word_term t)) a ∙ simp (sym fa, sym h, e, eq-eqb (word_kind a) 0 (cc)))
+  stands_nowhere k e ka z = ap not (eq-eqb k 0 z) ∙ sym (some_place (same_term (word_term t)) a ∙ simp (
+    sym fa,
+    sym h,
+    e,
+    eq-eqb
+        (word_kind a) 0 (cc),
+  ))
 
   pub stands_second : (k g : ℕ) (c : Bool) → b ≡ false → k ≡ word_kind a → (k ≡ 0 → ⊥) → g ≡ word_second a
       → c ≡ same_term (word_term t) (word_term g) → c ≡ any (same_term (word_term t)) (args (word_atom a))

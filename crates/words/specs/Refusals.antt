@@ -1,7 +1,8 @@
 -- The numbers of the refusals, 0 for none; and what a call that may refuse gives, as a number and a value.
 use Rattle.std.specs.Prelude.{ℕ, Result, Ok, Err}
 use Rattle.words.specs.declared.refusals.Refusal.{Refusal}
-use Rattle.words.specs.declared.refusals.Refusal.TheVariants.{RuleSheetLength, NoSuchRule, QuestionMalformed, AnswerVariableNowhere, AtomTwice}
+use Rattle.words.specs.declared.refusals.Refusal.TheVariants.{RuleSheetLength, NoSuchRule, QuestionMalformed, AnswerVariableNowhere}
+use Rattle.words.specs.declared.refusals.Refusal.TheVariants.{AtomTwice}
 use Rattle.words.specs.declared.refusals.Refusal.TheVariants.{UnionMalformed, FirstMemberNotQuestion, StepDoesNotApply, StepGivesAnother}
 use Rattle.words.specs.declared.refusals.Refusal.TheVariants.{MembersAlike, UnionOpen, FactSheetLength, FactMalformed, ListTooShort}
 use Rattle.words.specs.declared.refusals.Refusal.TheVariants.{TooManyQuestions, SheetTooShort, PairMalformed, HelperAsRole, NoAnswer}

@@ -23,17 +23,17 @@ use Rattle.promises.specs.Laws.Cut.{cut_to}
 
 -- ---- over its limit
 
-or-true : (b : Bool) → b || true ≡ true
-or-true true = refl
-or-true false = refl
+or_true : (b : Bool) → b || true ≡ true
+or_true true = refl
+or_true false = refl
 
 pub long_rules : (s : List ℕ) → most_rule_bytes < length s → first_refusal (rule_refusals partners01 sheet_width s) ≡ some 1
 unfolding first_refusal rule_refusals refuses1
-long_rules s h = rw (lt-ltb most_rule_bytes (length s) h, or-true)
+long_rules s h = rw (lt-ltb most_rule_bytes (length s) h, or_true)
 
 long_facts : (s : List ℕ) → most_fact_bytes sheet_width < length s → first_refusal (fact_refusals sheet_width s) ≡ some 12
 unfolding first_refusal fact_refusals refuses12
-long_facts s h = rw (lt-ltb (most_fact_bytes sheet_width) (length s) h, or-true)
+long_facts s h = rw (lt-ltb (most_fact_bytes sheet_width) (length s) h, or_true)
 
 question_over : (s : List ℕ) → most_question_bytes sheet_width < length s → refuses3 sheet_width s ≡ true
 question_over s h = go (refuses3 sheet_width s) refl
@@ -50,14 +50,14 @@ pub long_question : (s : List ℕ) → most_question_bytes sheet_width < length 
 unfolding first_refusal question_refusals
 long_question s h = rw (question_over s h)
 
-not-false : (b : Bool) → false ≡ not b → b ≡ true
-not-false true e = refl
-not-false false e = absurd (let z : ◌≡◌ {A = ℕ} 0 1 = cc in omega arith)
+not_false : (b : Bool) → false ≡ not b → b ≡ true
+not_false true e = refl
+not_false false e = absurd (let z : ◌≡◌ {A = ℕ} 0 1 = cc in omega arith)
 
 long_union : (arity : ℕ) (s : List ℕ) → most_union_bytes sheet_width < length s
     → first_refusal ((6, refuses6 partners01 sheet_width arity s) ∷ []) ≡ some 6
 unfolding first_refusal
-long_union arity s h = rw (not-false (refuses6 partners01 sheet_width arity s) (too_long partners01 s arity h))
+long_union arity s h = rw (not_false (refuses6 partners01 sheet_width arity s) (too_long partners01 s arity h))
 
 -- one file read as far as one byte beyond its limit, if that changes nothing where it is longer
 pub one_cut : {X : Type 0} (limit : ℕ) (s : List ℕ) (call : List ℕ → X)

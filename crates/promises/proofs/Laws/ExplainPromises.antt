@@ -61,11 +61,11 @@ module _ (rules question union : List ℕ) (accepted : AcceptedFor rules questio
       → (steps : List ExplainedStep) × WayBack (the_rules rules) (the_union union) k steps
   steps_exist =
       let read = ((unclashed_none partners01 sheet_width three).0 ((checked partners01 sheet_width three).0 accepted).0).0 in
-      let rules_in_lem = rules_read_in partners01 sheet_width rules (rules_unrefused partners01 sheet_width rules read).2 in
+      let rules_in_range = rules_read_in partners01 sheet_width rules (rules_unrefused partners01 sheet_width rules read).2 in
       let members_in = members_read_in partners01 sheet_width (term_count question 0) union not6 in
       way_exists (the_rules rules) (the_question question) (the_union union) (checked_accepted partners01 sheet_width three accepted).1
       (λ k m r at y. variables_low sheet_width r
-      (yield_in_range sheet_width (the_rules rules) (the_union union) rules_in_lem members_in k m.step r y))
+      (yield_in_range sheet_width (the_rules rules) (the_union union) rules_in_range members_in k m.step r y))
 
   -- so 20 is told by the written parents alone
   too_short_iff : (facts tuple : List ℕ) (room : ℕ)

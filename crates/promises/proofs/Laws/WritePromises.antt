@@ -71,8 +71,8 @@ module _ (rules question : List ℕ) (sound : SoundToWrite rules question) where
   question_is_sound =
       let n = question_unrefused partners01 sheet_width question each_sound.1 in sound_question (the_question question) n.1 n.2
 
-  rules_in_lem : RulesInRange (the_rules rules)
-  rules_in_lem = rules_read_in partners01 sheet_width rules not17
+  rules_in_range : RulesInRange (the_rules rules)
+  rules_in_range = rules_read_in partners01 sheet_width rules not17
 
   question_in : QueryInRange sheet_width (the_question question)
   question_in = question_read_in partners01 sheet_width question (question_unrefused partners01 sheet_width question each_sound.1).0
@@ -99,14 +99,15 @@ module _ (rules question : List ℕ) (sound : SoundToWrite rules question) where
     -- "its sheet reads as it"
     pub packed_reads : the_union packed ≡ the_written rules question
     packed_reads =
-        written_reads partners01 sheet_width (the_rules rules) (the_question question) rules_in_lem rules_stand question_in question_stands
+        written_reads partners01 sheet_width (the_rules rules) (the_question question) rules_in_range rules_stand question_in
+        question_stands
         question_is_sound whole_sheet few
 
     packed_passes6 : ¬ T (refuses6 partners01 sheet_width (term_count question 0) packed)
     packed_passes6 =
         subst (λ arity. ¬ T (refuses6 partners01 sheet_width arity packed)) (question_arity partners01 sheet_width question)
         (written_passes6 partners01 sheet_width (the_rules rules)
-        (the_question question) rules_in_lem rules_stand question_in question_stands
+        (the_question question) rules_in_range rules_stand question_in question_stands
         question_is_sound whole_sheet few)
 
     -- the longest has 33,282 bytes
@@ -114,7 +115,7 @@ module _ (rules question : List ℕ) (sound : SoundToWrite rules question) where
     packed_length =
         packed_union_length (the_written rules question)
         (written_in_range partners01 sheet_width (the_rules rules)
-        (the_question question) rules_in_lem rules_stand question_in question_stands
+        (the_question question) rules_in_range rules_stand question_in question_stands
         question_is_sound few)
 
     -- "The written union is one the desk accepts."

@@ -17,6 +17,7 @@ use Rattle.std.proofs.Common.{
   le_of_suc-le-suc,
   div-lt_iff_lt-mul,
   add-one,
+  drop-drop,
   arith,
   length-append,
   drop_of_length-le,
@@ -33,15 +34,6 @@ use Rattle.sheets.specs.Packing.{bytes_of, pack_records, All, IsByte}
 -- ---- on lists
 
 module _ {X : Type 0} where
-  drop_nil : (n : ℕ) → ◌≡◌ {A = List X} (drop n []) []
-  drop_nil zero = refl
-  drop_nil (suc n) = refl
-
-  pub drop-drop : (m n : ℕ) (xs : List X) → drop n (drop m xs) ≡ drop (m + n) xs
-  drop-drop zero n xs = ap (λ k. drop k xs) (sym (zero-add n))
-  drop-drop (suc m) n [] = drop_nil n ∙ sym (drop_nil (suc m + n))
-  drop-drop (suc m) n (x ∷ xs) = drop-drop m n xs ∙ ap (λ k. drop k (x ∷ xs)) (sym (suc-add m n))
-
   pub drop_append : (xs ys : List X) → drop (length xs) (xs ++ ys) ≡ ys
   drop_append [] ys = refl
   drop_append (x ∷ xs) ys = drop_append xs ys
@@ -84,7 +76,7 @@ module _ (xs ys : List ℕ) (at : ℕ) (s : List ℕ) where
   end = ap (λ k. at + k) (length-append xs ys) ∙ sym (add_assoc at (length xs) (length ys))
 
   rest : Stands (xs ++ ys) at s → drop (at + length xs) s ≡ ys ++ drop (at + length (xs ++ ys)) s
-  rest h = sym (drop-drop at (length xs) s) ∙ ap (drop (length xs)) (h ∙ append_assoc xs ys _) ∙ drop_append xs _
+  rest h = sym (drop-drop (length xs) at s) ∙ ap (drop (length xs)) (h ∙ append_assoc xs ys _) ∙ drop_append xs _
 
   pub stands_first : Stands (xs ++ ys) at s → Stands xs at s
   stands_first h = h ∙ append_assoc xs ys _ ∙ ap (λ zs. xs ++ zs) (sym (rest h))

@@ -32,7 +32,7 @@ module _ (may : Term → Term → Bool) (p q : Query) where
         λ t. (T_and (answers && go) come).1 ((T_and answers go).1 (t.0, go-iff.1 t.1), come-iff.1 t.2),
       )
 
-  -- where the terms of p may become their images only, a one_to_one map that is promising is a renaming
+  -- where the terms of p may become their images only, a one-to-one map that is promising is a renaming
   pub promising_renaming : (to : ℕ → ℕ) → ((u v : ℕ) → var u ∈ terms p → var v ∈ terms p → to u ≡ to v → u ≡ v)
       → ((s t : Term) → s ∈ terms p → T (may s t) → rename to s ≡ t) → T (promising may p q)
       → (r : Alike p q) × ((v : ℕ) → r.to v ≡ to v)

@@ -1,4 +1,4 @@
--- The search for a renaming decides: `alike` is true exactly where there is a one_to_one renaming.
+-- The search for a renaming decides: `alike` is true exactly where there is a one-to-one renaming.
 use Rattle.std.specs.Prelude.{◌≡◌, ◌⊎◌, ◌↔◌}
 use Rattle.std.proofs.Math.Path.{refl, sym, ap}
 use Rattle.std.proofs.Common.{◌∙◌, subst, inl, inr}
@@ -40,7 +40,7 @@ untaken_cons v w free ps f x m u d =
     let k = mem_without (eqb w) free m in
     elim (lookup_cons (v, w) ps u d) [ inl h ↦ k.1 ((T_eqb w x).1 h.1) | inr h ↦ f x k.0 u h ]
 
--- what `complete` gives is promising and one_to_one, and assigns all sources and what was assigned before
+-- what `complete` gives is promising and one-to-one, and assigns all sources and what was assigned before
 complete_found : (p q : Query) (sources free : List ℕ) (ps : Pairs) {found : Pairs} → T (promising (may_be ps) p q) → OneToOne ps
     → Untaken free ps → complete p q sources free ps ≡ some found
     → T (promising (may_be found) p q) × OneToOne found × ((v : ℕ) → (v ∈ sources) ⊎ Assigned ps v → Assigned found v)
@@ -81,7 +81,7 @@ may_be_image ps (var v) (const d) h t = absurd t
 may_be_image ps (const c) (var w) h t = absurd t
 may_be_image ps (const c) (const d) h t = ap const ((T_eqb c d).0 t)
 
--- promising one_to_one pairs that assign every variable of p are a renaming
+-- promising one-to-one pairs that assign every variable of p are a renaming
 renaming_of : (p q : Query) (ps : Pairs) → T (promising (may_be ps) p q) → OneToOne ps → ((v : ℕ) → var v ∈ terms p → Assigned ps v)
     → (r : Alike p q) × ((v : ℕ) → r.to v ≡ target ps v)
 renaming_of p q ps t o assigned =

@@ -128,7 +128,7 @@ module _ (p q : Query) (r : Alike p q) where
 
   -- ---- the step
 
-  -- the renaming is one_to_one on the old variables and the fresh one
+  -- the renaming is one-to-one on the old variables and the fresh one
   fresh_apart : (v : ℕ) → var v ∈ terms p → ¬ (extended v ≡ extended (fresh p))
   fresh_apart v m e = fresh_new q (Memᴰ.cast (ap var (sym extended_fresh ∙ sym e ∙ extended_old v m)) (term_into p q r m))
 
