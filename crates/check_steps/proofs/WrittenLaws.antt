@@ -156,7 +156,8 @@ right_passes none q e = absurd (subst T e tt)
 right_passes (some p) q e = (refl, ap not (sym e))
 
 module _ (rules : List Rule) (table : List ℕ) (n k : ℕ) (before : RightBefore rules table n k) where
-  pub right_too : (b : Bool) → k < n → b ≡ yields_alike (yield rules (union_in table n) k (member_in table k).step) (member_in table k).query
+  pub right_too : (b : Bool) → k < n
+      → b ≡ yields_alike (yield rules (union_in table n) k (member_in table k).step) (member_in table k).query
       → b ≡ true → RightBefore rules table n (k + 1)
   right_too b h e t =
       let passes =

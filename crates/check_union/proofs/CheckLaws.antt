@@ -11,10 +11,11 @@ use Rattle.theory.specs.Refusals.{first_refusal, number_of}
 use Rattle.theory.specs.Syntax.{Rule, Query, UCQ}
 use Rattle.theory.specs.Union.{refuses7, refuses8, refuses9, refuses10, refuses11, check}
 use Rattle.words.specs.declared.refusals.Refusal.{Refusal}
-use Rattle.words.specs.declared.refusals.Refusal.TheVariants.{RuleSheetLength, NoSuchRule, QuestionMalformed, AnswerVariableNowhere, AtomTwice}
-use Rattle.words.specs.declared.refusals.Refusal.TheVariants.{UnionMalformed, FirstMemberNotQuestion, StepDoesNotApply, StepGivesAnother, MembersAlike}
-use Rattle.words.specs.declared.refusals.Refusal.TheVariants.{UnionOpen, FactSheetLength, FactMalformed, ListTooShort, TooManyQuestions}
-use Rattle.words.specs.declared.refusals.Refusal.TheVariants.{SheetTooShort, PairMalformed, HelperAsRole, NoAnswer, StepsTooShort}
+use Rattle.words.specs.declared.refusals.Refusal.TheVariants.{RuleSheetLength, NoSuchRule, QuestionMalformed, AnswerVariableNowhere}
+use Rattle.words.specs.declared.refusals.Refusal.TheVariants.{AtomTwice, UnionMalformed, FirstMemberNotQuestion, StepDoesNotApply}
+use Rattle.words.specs.declared.refusals.Refusal.TheVariants.{StepGivesAnother, MembersAlike, UnionOpen, FactSheetLength}
+use Rattle.words.specs.declared.refusals.Refusal.TheVariants.{FactMalformed, ListTooShort, TooManyQuestions, SheetTooShort}
+use Rattle.words.specs.declared.refusals.Refusal.TheVariants.{PairMalformed, HelperAsRole, NoAnswer, StepsTooShort}
 use Rattle.words.specs.Refusals.{code}
 use Rattle.check_chains.specs.WalkLaws.{cleared}
 

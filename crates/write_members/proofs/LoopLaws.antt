@@ -177,7 +177,8 @@ module _ (rules : List Rule) (parent : ℕ) (q : Query) (i k : ℕ) (u : UCQ) wh
 -- ---- merges
 
 module _ (parent : ℕ) (q : QueryWords) (i j : ℕ) where
-  pub by_merge_lem : (u : UCQ) (r : Made QueryWords) (step : ℕ) (later later-keys : List ℕ) (m : Result ℕ Refusal) → query_found r ≡ merge_step (query_of q) i j
+  pub by_merge_lem : (u : UCQ) (r : Made QueryWords) (step : ℕ) (later later-keys : List ℕ) (m : Result ℕ Refusal)
+      → query_found r ≡ merge_step (query_of q) i j
       → step_of step ≡ record { kind = 2; parent = parent; atom = i; other = j }
       → Appended (appended_all u (stepped (step_of step) (query_found r))) later later-keys m
       → Appended (appended_all u (by_merge parent (query_of q) i j)) later later-keys m

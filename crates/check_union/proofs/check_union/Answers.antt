@@ -8,7 +8,8 @@ returns-then-refuses7 c = search laws
 
 pub returns-in_err-check_written : goal.returns-in_err-check_written
 returns-in_err-check_written c =
-    let p = err_from_is_err_and c.from_residual.result c.from_residual.ensures.1 in rw (p.1, p.2) (search (laws, c.in_err-check_written.ensures))
+    let p = err_from_is_err_and c.from_residual.result c.from_residual.ensures.1 in
+    rw (p.1, p.2) (search (laws, c.in_err-check_written.ensures))
 
 pub returns : goal.returns
 returns c =

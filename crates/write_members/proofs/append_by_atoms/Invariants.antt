@@ -12,5 +12,6 @@ invariant-loop-i l =
     (length l.table ≡ length l.initial.table) × (length l.keys ≡ length l.initial.keys)
     × AtomsLeft (rules_in l.rules (length l.rules)) (length l.rules) l.parent (query_of l.q) l.q.size
     (appended_all (union_in l.initial.table l.n)
-    (flat_map (λ i. flat_map (by_rule (rules_in l.rules (length l.rules)) l.parent (query_of l.q) i) (numbers 0 (length l.rules))) (numbers 0 l.q.size)))
+    (flat_map (λ i. flat_map (by_rule (rules_in l.rules (length l.rules)) l.parent (query_of l.q) i) (numbers 0 (length l.rules)))
+    (numbers 0 l.q.size)))
     l.i l.table l.keys l.members

@@ -4,7 +4,8 @@ use Rattle.write_members.proofs.append_by_merges.Goals as goal
 
 pub returns-in_err-members : goal.returns-in_err-members
 returns-in_err-members c =
-    let p = err_from_is_err_and c.from_residual.result c.from_residual.ensures.1 in rw (p.1, p.2) (search (pair_loop, c.in_err-members.ensures))
+    let p = err_from_is_err_and c.from_residual.result c.from_residual.ensures.1 in
+    rw (p.1, p.2) (search (pair_loop, c.in_err-members.ensures))
 
 pub loop-i-preserved : goal.loop-i-preserved
 loop-i-preserved c = search (pair_loop, c.in_ok-members.ensures)

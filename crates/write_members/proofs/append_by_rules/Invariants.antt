@@ -12,4 +12,5 @@ invariant-loop-k l =
     (length l.table ≡ length l.initial.table) × (length l.keys ≡ length l.initial.keys)
     × RulesLeft (rules_in l.rules (length l.rules)) (length l.rules) l.parent (query_of l.q) l.i
     (appended_all (union_in l.initial.table l.n)
-    (flat_map (by_rule (rules_in l.rules (length l.rules)) l.parent (query_of l.q) l.i) (numbers 0 (length l.rules)))) l.k l.table l.keys l.members
+    (flat_map (by_rule (rules_in l.rules (length l.rules)) l.parent (query_of l.q) l.i) (numbers 0 (length l.rules))))
+    l.k l.table l.keys l.members

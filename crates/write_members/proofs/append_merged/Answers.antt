@@ -10,7 +10,8 @@ append-requires c = search later_loop
 
 pub returns-in_err-members : goal.returns-in_err-members
 returns-in_err-members c =
-    let p = err_from_is_err_and c.from_residual.result c.from_residual.ensures.1 in rw (p.1, p.2) (search (later_loop, c.in_err-members.ensures))
+    let p = err_from_is_err_and c.from_residual.result c.from_residual.ensures.1 in
+    rw (p.1, p.2) (search (later_loop, c.in_err-members.ensures))
 
 pub loop-j-preserved : goal.loop-j-preserved
 loop-j-preserved c = search (later_loop, c.in_ok-members.ensures)

@@ -7,7 +7,8 @@ loop-k-init c = search member_loop
 
 pub returns-in_err-members : goal.returns-in_err-members
 returns-in_err-members c =
-    let p = err_from_is_err_and c.from_residual.result c.from_residual.ensures.1 in rw (p.1, p.2) (search (member_loop, c.in_err-members.ensures))
+    let p = err_from_is_err_and c.from_residual.result c.from_residual.ensures.1 in
+    rw (p.1, p.2) (search (member_loop, c.in_err-members.ensures))
 
 pub loop-k-preserved : goal.loop-k-preserved
 loop-k-preserved c = search (member_loop, c.in_ok-members.ensures)
