@@ -1,2 +1,3 @@
+pub mod EntryLaws
 pub mod Gives
 pub mod GivesLaws

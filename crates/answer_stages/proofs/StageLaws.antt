@@ -15,6 +15,10 @@ use Rattle.theory.specs.Union.{Accepted, refuses7, refuses8, refuses9, refuses10
 use Rattle.theory.specs.Evaluation.{answers_of}
 use Rattle.theory.specs.Laws.Lists.{mem_along}
 use Rattle.theory.proofs.Laws.Union.{check_accepts}
+use Rattle.std.specs.Prelude.{Result, Err}
+use Rattle.words.specs.Refusals.{code, number_in, count_in}
+use Rattle.words.specs.declared.refusals.Refusal.{Refusal}
+use Rattle.words.specs.declared.refusals.Refusal.TheVariants.{HelperAsRole}
 use Rattle.words.specs.FactWords.{ZeroBits}
 use Rattle.words.specs.Laws.FactHeads.{zero_bits}
 use Rattle.words.specs.Limits.{sheet_width, object_bound, most_facts}
@@ -33,9 +37,8 @@ use Rattle.answer_settled.specs.Search.{TuplesInRange}
 use Rattle.answer_settled.specs.Laws.InRange.{tuples_in_range}
 use Rattle.answer_evaluate.specs.Merges.{SafeMembers, MergesMade}
 use Rattle.answer_evaluate.specs.MergeLaws.{merges_made}
-use Rattle.answer_draw.specs.declared.Answers.{Answers}
 use Rattle.answer_draw.specs.Gives.{GivesAnswers}
-use Rattle.answer_draw.specs.GivesLaws.{refused_first, goes_on}
+use Rattle.answer_draw.specs.GivesLaws.{gives_refused, goes_on}
 use Rattle.answer_stages.specs.Stages.{facts_number, clash_number, GivesFromFacts, GivesFromUnion}
 
 -- ---- the members in the table
@@ -55,12 +58,13 @@ constants_there table n terms m = record { each = m.constants }
 
 -- ---- facts, as they were read
 
-module _ (p s words : List ℕ) (number count : ℕ) (read : FactsRead p s words number count) where
-  pub facts_refused : (room terms helpers : ℕ) (clash : Bool) (union : UCQ) (r : Answers) (list : List ℕ) → (number ≡ 0 → ⊥)
-      → (r.number ≡ number) × (r.count ≡ 0) × (list ≡ replicate room 0) → GivesFromFacts p s union terms helpers clash room r list
-  facts_refused room terms helpers clash union r list h g =
-      refused_first room (answers_of (facts_as_read p sheet_width s) union) number (facts_number s) _ r list read.sheet.number_is h g
+pub facts_refused : (p s words : List ℕ) (refusal : Refusal) (count room terms helpers : ℕ) (clash : Bool) (union : UCQ)
+    (r : Result ℕ Refusal) (list : List ℕ) → FactsRead p s words (code refusal) count
+    → (r ≡ Err refusal) × (list ≡ replicate room 0) → GivesFromFacts p s union terms helpers clash room (number_in r) (count_in r) list
+facts_refused p s words refusal count room terms helpers clash union r list read g =
+    gives_refused room (answers_of (facts_as_read p sheet_width s) union) (facts_number s) _ refusal r list read.sheet.number_is g
 
+module _ (p s words : List ℕ) (count : ℕ) (read : FactsRead p s words 0 count) where
   pub facts_few : count ≤ most_facts
   facts_few = read.sheet.few
 
@@ -71,36 +75,36 @@ module _ (p s words : List ℕ) (number count : ℕ) (read : FactsRead p s words
   pub zeros_there : ZeroBits words count
   zeros_there = zero_bits words count read.words
 
-  module _ (zero : number ≡ 0) where
-    pub found_in_range : (table : List ℕ) (n : ℕ) → Constants table n → TuplesInRange (facts_in words count) (union_in table n)
-    found_in_range table n members =
-        tuples_in_range (facts_in words count) (union_in table n) (λ f m. facts_in_range p s f (mem_along (read.sheet.read zero) m))
-        members.each
+  pub found_in_range : (table : List ℕ) (n : ℕ) → Constants table n → TuplesInRange (facts_in words count) (union_in table n)
+  found_in_range table n members =
+      tuples_in_range (facts_in words count) (union_in table n) (λ f m. facts_in_range p s f (mem_along (read.sheet.read refl) m))
+      members.each
 
-    -- c is what the code found of clashes
-    pub clash_is : (helpers : ℕ) (clash c : Bool) → c ≡ (clash || clashing helpers (roles_of_atoms (facts_in words count)))
-        → pick c 18 0 ≡ clash_number clash helpers (facts_as_read p sheet_width s)
-    clash_is helpers clash c e =
-        ap (λ b. pick b 18 0) (e ∙ ap (λ fs. clash || clashing helpers (roles_of_atoms fs)) (read.sheet.read zero))
+  -- c is what the code found of clashes
+  pub clash_is : (helpers : ℕ) (clash c : Bool) → c ≡ (clash || clashing helpers (roles_of_atoms (facts_in words count)))
+      → pick c 18 0 ≡ clash_number clash helpers (facts_as_read p sheet_width s)
+  clash_is helpers clash c e =
+      ap (λ b. pick b 18 0) (e ∙ ap (λ fs. clash || clashing helpers (roles_of_atoms fs)) (read.sheet.read refl))
 
-    module _ (room terms helpers : ℕ) (clash : Bool) (union : UCQ) (r : Answers) (list : List ℕ) (c : Bool)
-        (e : c ≡ (clash || clashing helpers (roles_of_atoms (facts_in words count)))) where
-      pub facts_clash : c ≡ true → (r.number ≡ 18) × (r.count ≡ 0) × (list ≡ replicate room 0)
-          → GivesFromFacts p s union terms helpers clash room r list
-      facts_clash t g =
-          goes_on room (answers_of (facts_as_read p sheet_width s) union) number (facts_number s) _ r list read.sheet.number_is zero
-          (refused_first room (answers_of (facts_as_read p sheet_width s) union) 18
-          (clash_number clash helpers (facts_as_read p sheet_width s)) _ r list
-          (ap (λ b. pick b 18 0) (sym t) ∙ clash_is helpers clash c e) (λ z. omega arith) g)
+  module _ (room terms helpers : ℕ) (clash : Bool) (union : UCQ) (list : List ℕ) (c : Bool)
+      (e : c ≡ (clash || clashing helpers (roles_of_atoms (facts_in words count)))) where
+    pub facts_clash : (r : Result ℕ Refusal) → c ≡ true → (r ≡ Err HelperAsRole) × (list ≡ replicate room 0)
+        → GivesFromFacts p s union terms helpers clash room (number_in r) (count_in r) list
+    facts_clash r t g =
+        goes_on room (answers_of (facts_as_read p sheet_width s) union) (facts_number s) _ (number_in r) (count_in r) list
+        read.sheet.number_is
+        (gives_refused room (answers_of (facts_as_read p sheet_width s) union)
+        (clash_number clash helpers (facts_as_read p sheet_width s)) _ HelperAsRole r list
+        (ap (λ b. pick b 18 0) (sym t) ∙ clash_is helpers clash c e) g)
 
-      pub facts_pass : c ≡ false → GivesAnswers (facts_in words count) union terms room r list
-          → GivesFromFacts p s union terms helpers clash room r list
-      facts_pass f g =
-          goes_on room (answers_of (facts_as_read p sheet_width s) union) number (facts_number s) _ r list read.sheet.number_is zero
-          (goes_on room (answers_of (facts_as_read p sheet_width s) union) 0
-          (clash_number clash helpers (facts_as_read p sheet_width s)) _ r list
-          (ap (λ b. pick b 18 0) (sym f) ∙ clash_is helpers clash c e) refl
-          (subst (λ fs. GivesAnswers fs union terms room r list) (read.sheet.read zero) g))
+    pub facts_pass : (number given : ℕ) → c ≡ false → GivesAnswers (facts_in words count) union terms room number given list
+        → GivesFromFacts p s union terms helpers clash room number given list
+    facts_pass number given f g =
+        goes_on room (answers_of (facts_as_read p sheet_width s) union) (facts_number s) _ number given list read.sheet.number_is
+        (goes_on room (answers_of (facts_as_read p sheet_width s) union)
+        (clash_number clash helpers (facts_as_read p sheet_width s)) _ number given list
+        (ap (λ b. pick b 18 0) (sym f) ∙ clash_is helpers clash c e)
+        (subst (λ fs. GivesAnswers fs union terms room number given list) (read.sheet.read refl) g))
 
 -- ---- the union, as it was read
 
@@ -131,41 +135,40 @@ union_passed false k e = (λ t. t, e)
 pub terms_few : (q : QueryWords) → Small q → q.terms ≤ 4
 terms_few q small = small.few_terms
 
-module _ (p : List ℕ) (rules : List Rule) (q : Query) (terms : ℕ) (s table : List ℕ) (number count : ℕ)
-    (read : MembersRead p rules q terms s table number count) where
-  pub members_there : number ≡ 0 → Members table count terms
-  members_there zero = read.members zero
+module _ (p : List ℕ) (rules : List Rule) (q : Query) (terms : ℕ) (s table : List ℕ) where
+  pub union_refused : (refusal : Refusal) (count : ℕ) → MembersRead p rules q terms s table (code refusal) count
+      → (facts : List ℕ) (helpers : ℕ) (clash : Bool) (room : ℕ) (r : Result ℕ Refusal) (list : List ℕ)
+      → (r ≡ Err refusal) × (list ≡ replicate room 0)
+      → GivesFromUnion p rules q terms s facts helpers clash room (number_in r) (count_in r) list
+  union_refused refusal count read facts helpers clash room r list g =
+      gives_refused room (answers_of (facts_as_read p sheet_width facts) (union_as_read p sheet_width s))
+      (union_number p rules q terms s) _ refusal r list read.number_is g
 
-  passed : number ≡ 0 → (¬ T (refuses6 p sheet_width terms s)) × (number_of (check rules q (union_as_read p sheet_width s)) ≡ 0)
-  passed zero =
-      union_passed (refuses6 p sheet_width terms s) (number_of (check rules q (union_as_read p sheet_width s))) (sym read.number_is ∙ zero)
+  module _ (count : ℕ) (read : MembersRead p rules q terms s table 0 count) where
+    pub members_there : Members table count terms
+    members_there = read.members refl
 
-  pub safe_there : number ≡ 0 → SafeMembers (union_in table count)
-  safe_there zero = subst SafeMembers (sym (read.union_is zero))
-      (record { each = λ m n. (sound_members p sheet_width terms s (passed zero).0 m n).safe })
+    passed : (¬ T (refuses6 p sheet_width terms s)) × (number_of (check rules q (union_as_read p sheet_width s)) ≡ 0)
+    passed = union_passed (refuses6 p sheet_width terms s) (number_of (check rules q (union_as_read p sheet_width s))) (sym read.number_is)
 
-  pub accepted_there : number ≡ 0 → Accepted rules q (union_in table count)
-  accepted_there zero = subst (Accepted rules q) (sym (read.union_is zero))
-      ((check_accepts rules q (union_as_read p sheet_width s)).0 (check_passed rules q (union_as_read p sheet_width s) (passed zero).1))
+    pub safe_there : SafeMembers (union_in table count)
+    safe_there = subst SafeMembers (sym (read.union_is refl))
+        (record { each = λ m n. (sound_members p sheet_width terms s passed.0 m n).safe })
 
-  pub merges_there : number ≡ 0 → MergesMade (union_in table count)
-  merges_there zero = merges_made rules q (union_in table count) (accepted_there zero)
+    pub accepted_there : Accepted rules q (union_in table count)
+    accepted_there = subst (Accepted rules q) (sym (read.union_is refl))
+        ((check_accepts rules q (union_as_read p sheet_width s)).0 (check_passed rules q (union_as_read p sheet_width s) passed.1))
 
-  pub union_refused : (facts : List ℕ) (helpers : ℕ) (clash : Bool) (room : ℕ) (r : Answers) (list : List ℕ) → (number ≡ 0 → ⊥)
-      → (r.number ≡ number) × (r.count ≡ 0) × (list ≡ replicate room 0)
-      → GivesFromUnion p rules q terms s facts helpers clash room r list
-  union_refused facts helpers clash room r list h g =
-      refused_first room (answers_of (facts_as_read p sheet_width facts) (union_as_read p sheet_width s)) number
-      (union_number p rules q terms s) _ r list
-      read.number_is h g
+    pub merges_there : MergesMade (union_in table count)
+    merges_there = merges_made rules q (union_in table count) accepted_there
 
-  pub union_passes : (facts : List ℕ) (helpers : ℕ) (clash : Bool) (room : ℕ) (r : Answers) (list : List ℕ) → number ≡ 0
-      → GivesFromFacts p facts (union_in table count) terms helpers clash room r list
-      → GivesFromUnion p rules q terms s facts helpers clash room r list
-  union_passes facts helpers clash room r list zero g =
-      goes_on room (answers_of (facts_as_read p sheet_width facts) (union_as_read p sheet_width s)) number
-      (union_number p rules q terms s) _ r list
-      read.number_is zero (subst (λ u. GivesFromFacts p facts u terms helpers clash room r list) (read.union_is zero) g)
+    pub union_passes : (facts : List ℕ) (helpers : ℕ) (clash : Bool) (room number given : ℕ) (list : List ℕ)
+        → GivesFromFacts p facts (union_in table count) terms helpers clash room number given list
+        → GivesFromUnion p rules q terms s facts helpers clash room number given list
+    union_passes facts helpers clash room number given list g =
+        goes_on room (answers_of (facts_as_read p sheet_width facts) (union_as_read p sheet_width s))
+        (union_number p rules q terms s) _ number given list read.number_is
+        (subst (λ u. GivesFromFacts p facts u terms helpers clash room number given list) (read.union_is refl) g)
 
 pub ruleset fact_laws = (
   rules,

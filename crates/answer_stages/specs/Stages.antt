@@ -10,7 +10,6 @@ use Rattle.sheets.specs.Reading.{union_as_read, facts_as_read}
 use Rattle.sheets.specs.Refusals.{fact_refusals, number_of}
 use Rattle.read_helpers.specs.InUse.{clashing}
 use Rattle.check_sheet.specs.Members.{union_number}
-use Rattle.answer_draw.specs.declared.Answers.{Answers}
 use Rattle.answer_draw.specs.Gives.{room_number, Gives}
 
 -- 12 and 13: a fact sheet
@@ -22,16 +21,16 @@ abbrev pub clash_number : Bool → ℕ → List Fact → ℕ
 clash_number clash helpers facts = pick (clash || clashing helpers (roles_of_atoms facts)) 18 0
 
 -- from a fact sheet on: 12, 13, 18 and 14, or the answers
-abbrev pub GivesFromFacts : List ℕ → List ℕ → UCQ → ℕ → ℕ → Bool → ℕ → Answers → List ℕ → Type 0
-GivesFromFacts partners sheet union terms helpers clash room r list =
+abbrev pub GivesFromFacts : List ℕ → List ℕ → UCQ → ℕ → ℕ → Bool → ℕ → ℕ → ℕ → List ℕ → Type 0
+GivesFromFacts partners sheet union terms helpers clash room number count list =
     Gives room (answers_of (facts_as_read partners sheet_width sheet) union)
     (otherwise (facts_number sheet) (otherwise (clash_number clash helpers (facts_as_read partners sheet_width sheet))
-    (room_number room terms (answers_of (facts_as_read partners sheet_width sheet) union)))) r list
+    (room_number room terms (answers_of (facts_as_read partners sheet_width sheet) union)))) number count list
 
 -- from a union sheet on: 6 to 13, 18 and 14, or the answers
-abbrev pub GivesFromUnion : List ℕ → List Rule → Query → ℕ → List ℕ → List ℕ → ℕ → Bool → ℕ → Answers → List ℕ → Type 0
-GivesFromUnion partners rules q terms union facts helpers clash room r list =
+abbrev pub GivesFromUnion : List ℕ → List Rule → Query → ℕ → List ℕ → List ℕ → ℕ → Bool → ℕ → ℕ → ℕ → List ℕ → Type 0
+GivesFromUnion partners rules q terms union facts helpers clash room number count list =
     Gives room (answers_of (facts_as_read partners sheet_width facts) (union_as_read partners sheet_width union))
     (otherwise (union_number partners rules q terms union) (otherwise (facts_number facts)
     (otherwise (clash_number clash helpers (facts_as_read partners sheet_width facts))
-    (room_number room terms (answers_of (facts_as_read partners sheet_width facts) (union_as_read partners sheet_width union)))))) r list
+    (room_number room terms (answers_of (facts_as_read partners sheet_width facts) (union_as_read partners sheet_width union)))))) number count list

@@ -3,13 +3,16 @@ use mathlib.Core.Path.{◌≡◌, refl, sym, ap, ap₂, ◌∙◌}
 use Prim.Native.Nat.{ℕ}
 use mathlib.Core.Bool.{Bool, true, false, ◌||◌}
 use mathlib.Core.List.{List, [], ◌∷◌}
+use lib.ListN.{length, take}
 use borrow.Author.Rules.{rules}
 use borrow.Author.Tests.{eq-eqb, ne_eqb}
 use Rattle.theory.specs.Lists.{pick}
 use Rattle.theory.specs.Refusals.{first_refusal, otherwise}
 use Rattle.theory.specs.Syntax.{Query}
 use Rattle.theory.specs.Qualified.{roles_of_rules, roles_of_atoms, refuses18}
+use Rattle.words.specs.Refusals.{code}
 use Rattle.words.specs.Words.{rules_in, query_of}
+use Rattle.words.specs.declared.refusals.Refusal.{Refusal}
 use Rattle.words.specs.declared.QueryWords.{QueryWords}
 use Rattle.words.specs.Limits.{sheet_width}
 use Rattle.sheets.specs.Format.{term_count}
@@ -26,6 +29,7 @@ use Rattle.read_rules.specs.RuleLaws.{rules_within, helpers_within, clash_with, 
 use Rattle.read_question.specs.QuestionWords.{QuestionRead}
 use Rattle.read_question.specs.QuestionLaws.{question_small}
 use Rattle.check_sheet.specs.Members.{union_number}
+use Rattle.answer_draw.specs.EntryLaws.{numbered, rules_lent}
 
 -- ---- numbers, one after the other
 
@@ -96,40 +100,51 @@ module _ (rules question union facts : List ℕ) (p table : List ℕ) (first cou
 
 -- ---- a check
 
-module _ (rules question union : List ℕ) (p table : List ℕ) (first count : ℕ) (read : RulesRead p rules table first count)
-    (table01 : p ≡ partners01) where
+module _ (rules question union : List ℕ) (p table : List ℕ) (table01 : p ≡ partners01) where
   abbrev clashes : ℕ
   clashes = number_of (first_refusal (clash_refusals partners01 sheet_width (sheets_of rules question union)))
 
   abbrev so_far : ℕ
-  so_far = before rules question union [] p table first count read
+  so_far = unclashed_number partners01 sheet_width (sheets_of rules question union)
 
   stops : (n : ℕ) → (n ≡ 0 → ⊥) → n ≡ so_far → n ≡ check_number rules question union
   stops n h e =
       sym (checking_number partners01 sheet_width (sheets_of rules question union) ∙ ap (λ m. otherwise m clashes) (sym e)
       ∙ otherwise_stops n clashes h)
 
-  pub rules_refused : (first ≡ 0 → ⊥) → first ≡ check_number rules question union
-  rules_refused h = stops first h (rules_stopped rules question union [] p table first count read table01 h)
+  pub rules_refused : (refusal : Refusal) (count : ℕ) → RulesRead p rules table (code refusal) count
+      → code refusal ≡ check_number rules question union
+  rules_refused refusal count read =
+      stops (code refusal) (numbered refusal)
+      (rules_stopped rules question union [] p table (code refusal) count read table01 (numbered refusal))
 
-  module _ (zero : first ≡ 0) (second : ℕ) (q : QueryWords) (asked : QuestionRead p question second q) where
-    pub question_refused : (second ≡ 0 → ⊥) → second ≡ check_number rules question union
-    question_refused h = stops second h (question_stopped rules question union [] p table first count read table01 zero second q asked h)
+  module _ (count : ℕ) (read : RulesRead p rules table 0 count) where
+    pub question_refused : (refusal : Refusal) (q : QueryWords) → QuestionRead p question (code refusal) q
+        → code refusal ≡ check_number rules question union
+    question_refused refusal q asked =
+        stops (code refusal) (numbered refusal)
+        (question_stopped rules question union [] p table 0 count read table01 refl (code refusal) q asked (numbered refusal))
 
-    module _ (zero' : second ≡ 0) (r : ℕ) (g : r ≡ union_number p (rules_in table count) (query_of q) q.terms union) where
-      checked : r ≡ so_far
-      checked = g ∙ union_checked rules question union [] p table first count read table01 zero second q asked zero'
+    module _ (q : QueryWords) (asked : QuestionRead p question 0 q) where
+      checked : (r : ℕ) → r ≡ union_number p (rules_in (take count table) (length (take count table))) (query_of q) q.terms union
+          → r ≡ so_far
+      checked r g =
+          g ∙ ap (λ rs. union_number p rs (query_of q) q.terms union) (rules_lent table count)
+          ∙ union_checked rules question union [] p table 0 count read table01 refl 0 q asked refl
 
-      pub union_refused : (r ≡ 0 → ⊥) → r ≡ check_number rules question union
-      union_refused h = stops r h checked
+      pub union_refused : (refusal : Refusal)
+          → code refusal ≡ union_number p (rules_in (take count table) (length (take count table))) (query_of q) q.terms union
+          → code refusal ≡ check_number rules question union
+      union_refused refusal g = stops (code refusal) (numbered refusal) (checked (code refusal) g)
 
-      module _ (none : r ≡ 0) (helpers : ℕ) (clash : Bool) (in_use : HelpersRead p rules first helpers clash) (c : Bool)
+      module _ (g : 0 ≡ union_number p (rules_in (take count table) (length (take count table))) (query_of q) q.terms union)
+          (helpers : ℕ) (clash : Bool) (in_use : HelpersRead p rules 0 helpers clash) (c : Bool)
           (e : c ≡ (clash || clashing helpers (roles_of_atoms (query_of q).atoms))) where
         last_is : check_number rules question union ≡ pick c 18 0
         last_is =
             checking_number partners01 sheet_width (sheets_of rules question union)
-            ∙ otherwise_goes_on so_far clashes (sym checked ∙ none)
-            ∙ clashes_are rules question union [] p table first count read table01 zero second q asked zero' helpers clash in_use c e
+            ∙ otherwise_goes_on so_far clashes (sym (checked 0 g))
+            ∙ clashes_are rules question union [] p table 0 count read table01 refl 0 q asked refl helpers clash in_use c e
 
         pub clash_refused : c ≡ true → 18 ≡ check_number rules question union
         clash_refused t = sym (last_is ∙ ap (λ b. pick b 18 0) t)

@@ -4,14 +4,17 @@ use Prim.Native.Nat.{ℕ}
 use mathlib.Core.Bool.{Bool, true, false, ◌||◌}
 use mathlib.Core.List.{List, [], ◌∷◌}
 use lib.Dec.{T, eqb, ltb}
-use lib.ListN.{replicate}
+use lib.ListN.{length, take, replicate}
 use borrow.Author.Rules.{rules}
 use Rattle.theory.specs.Lists.{pick, guard}
 use Rattle.theory.specs.Refusals.{first_refusal, otherwise}
 use Rattle.theory.specs.Evaluation.{answers_of}
 use Rattle.theory.specs.Qualified.{roles_of_atoms, refuses18}
 use Rattle.theory.specs.Laws.Options.{T_eqb}
+use Rattle.std.specs.Prelude.{Result, Err}
+use Rattle.words.specs.Refusals.{code, number_in, count_in}
 use Rattle.words.specs.Words.{rules_in, query_of}
+use Rattle.words.specs.declared.refusals.Refusal.{Refusal}
 use Rattle.words.specs.declared.QueryWords.{QueryWords}
 use Rattle.words.specs.Limits.{sheet_width}
 use Rattle.sheets.specs.Partners.{partners01}
@@ -29,9 +32,9 @@ use Rattle.read_rules.specs.RuleWords.{RulesRead, HelpersRead}
 use Rattle.read_rules.specs.RuleLaws.{helpers_within, clash_with}
 use Rattle.read_question.specs.QuestionLaws.{question_small}
 use Rattle.read_question.specs.QuestionWords.{QuestionRead}
-use Rattle.answer_draw.specs.declared.Answers.{Answers}
 use Rattle.answer_draw.specs.Gives.{room_number, Gives}
-use Rattle.answer_draw.specs.GivesLaws.{refused_first, gives_along}
+use Rattle.answer_draw.specs.EntryLaws.{numbered, rules_lent}
+use Rattle.answer_draw.specs.GivesLaws.{gives_refused, gives_along}
 use Rattle.answer_stages.specs.Stages.{facts_number, clash_number, GivesFromUnion}
 use Rattle.answering.proofs.CheckLaws.{rules_stopped, question_stopped, union_checked, clashes_are}
 
@@ -88,38 +91,38 @@ module _ (rules question union facts : List ℕ) (room : ℕ) where
       ∙ ap (otherwise unclashed) (otherwise_assoc (facts_number facts) clashes last)
 
   -- what a call must give
-  abbrev pub Staged : Answers → List ℕ → Type 0
-  Staged r list = Gives room (the_answers union facts) staged r list
+  abbrev pub Staged : ℕ → ℕ → List ℕ → Type 0
+  Staged number count list = Gives room (the_answers union facts) staged number count list
 
   -- ---- the meaning of the outcome, of what a call gives
 
-  module _ (r : Answers) (list : List ℕ) (g : Staged r list) where
-    same_number : r.number ≡ (outcome rules question union facts room).number
+  module _ (number count : ℕ) (list : List ℕ) (g : Staged number count list) where
+    same_number : number ≡ (outcome rules question union facts room).number
     same_number = g.number_is ∙ sym staged_is
 
-    to_zero : r.number ≡ 0 → (outcome rules question union facts room).number ≡ 0
+    to_zero : number ≡ 0 → (outcome rules question union facts room).number ≡ 0
     to_zero z = sym same_number ∙ z
 
-    same_both : (r.count ≡ (outcome rules question union facts room).count) × (list ≡ (outcome rules question union facts room).list)
-    same_both = go (eqb r.number 0) refl
+    same_both : (count ≡ (outcome rules question union facts room).count) × (list ≡ (outcome rules question union facts room).list)
+    same_both = go (eqb number 0) refl
       where
-        go : (t : Bool) → t ≡ eqb r.number 0 → (r.count ≡ (outcome rules question union facts room).count)
+        go : (t : Bool) → t ≡ eqb number 0 → (count ≡ (outcome rules question union facts room).count)
             × (list ≡ (outcome rules question union facts room).list)
         go true e =
-            let z : r.number ≡ 0 = eqb_zero r.number e in
+            let z : number ≡ 0 = eqb_zero number e in
             let d = g.drawn (sym g.number_is ∙ z) in (
               d.0 ∙ sym (count_means rules question union facts room (to_zero z)),
               d.1
                   ∙ sym (list_means rules question union facts room (to_zero z)),
             )
         go false e =
-            let z : r.number ≡ 0 → ⊥ = eqb_other r.number e in
+            let z : number ≡ 0 → ⊥ = eqb_other number e in
             let d = g.refused (λ k. z (g.number_is ∙ k)) in
             let m = refused_means rules question union facts room (λ k. z (same_number ∙ k)) in
             (d.0 ∙ sym m.0, d.1 ∙ sym m.1)
 
     -- the pledge
-    pub with_outcome : Drawn rules question union facts room r.number r.count list
+    pub with_outcome : Drawn rules question union facts room number count list
     with_outcome =
         let (c, l) = same_both in
         let means = zero_means rules question union facts room in
@@ -145,45 +148,49 @@ both_clashes true b c = refl
 both_clashes false true c = refl
 both_clashes false false c = refl
 
-module _ (rules question union facts : List ℕ) (p table : List ℕ) (first count : ℕ) (read : RulesRead p rules table first count)
-    (table01 : p ≡ partners01) where
-  pub rules_final : (first ≡ 0 → ⊥) → (room : ℕ) (r : Answers) (list : List ℕ)
-      → (r.number ≡ first) × (r.count ≡ 0) × (list ≡ replicate room 0) → Staged rules question union facts room r list
-  rules_final h room r list g =
-      refused_first room (the_answers union facts) first (unclashed rules question union facts room) _ r list
-      (rules_stopped rules question union facts p table first count read table01 h) h g
+module _ (rules question union facts : List ℕ) (p table : List ℕ) (table01 : p ≡ partners01) (room : ℕ) where
+  pub rules_final : (refusal : Refusal) (count : ℕ) → RulesRead p rules table (code refusal) count
+      → (r : Result ℕ Refusal) (list : List ℕ) → (r ≡ Err refusal) × (list ≡ replicate room 0)
+      → Staged rules question union facts room (number_in r) (count_in r) list
+  rules_final refusal count read r list g =
+      gives_refused room (the_answers union facts) (unclashed rules question union facts room) _ refusal r list
+      (rules_stopped rules question union facts p table (code refusal) count read table01 (numbered refusal)) g
 
-  module _ (zero : first ≡ 0) (second : ℕ) (q : QueryWords) (asked : QuestionRead p question second q) where
-    pub question_final : (second ≡ 0 → ⊥) → (room : ℕ) (r : Answers) (list : List ℕ)
-        → (r.number ≡ second) × (r.count ≡ 0) × (list ≡ replicate room 0) → Staged rules question union facts room r list
-    question_final h room r list g =
-        refused_first room (the_answers union facts) second (unclashed rules question union facts room) _ r list
-        (question_stopped rules question union facts p table first count read table01 zero second q asked h) h g
+  module _ (count : ℕ) (read : RulesRead p rules table 0 count) where
+    pub question_final : (refusal : Refusal) (q : QueryWords) → QuestionRead p question (code refusal) q
+        → (r : Result ℕ Refusal) (list : List ℕ) → (r ≡ Err refusal) × (list ≡ replicate room 0)
+        → Staged rules question union facts room (number_in r) (count_in r) list
+    question_final refusal q asked r list g =
+        gives_refused room (the_answers union facts) (unclashed rules question union facts room) _ refusal r list
+        (question_stopped rules question union facts p table 0 count read table01 refl (code refusal) q asked (numbered refusal)) g
 
-    module _ (zero' : second ≡ 0) (helpers : ℕ) (clash : Bool) (in_use : HelpersRead p rules first helpers clash) (c : Bool)
-        (e : c ≡ (clash || clashing helpers (roles_of_atoms (query_of q).atoms))) (room : ℕ) where
+    module _ (q : QueryWords) (asked : QuestionRead p question 0 q) (helpers : ℕ) (clash : Bool)
+        (in_use : HelpersRead p rules 0 helpers clash) (c : Bool)
+        (e : c ≡ (clash || clashing helpers (roles_of_atoms (query_of q).atoms))) where
       clashes_there : clash_number c helpers (facts_as_read p sheet_width facts) ≡ clashes rules question union facts room
       clashes_there =
-          let fact = clash_with p rules table first count helpers clash read in_use zero
+          let fact = clash_with p rules table 0 count helpers clash read in_use refl
           (roles_of_atoms (facts_as_read p sheet_width facts)) in
           sym (ap₂ otherwise
-          (clashes_are rules question union facts p table first count read table01 zero second q asked zero' helpers clash in_use c e)
+          (clashes_are rules question union facts p table 0 count read table01 refl 0 q asked refl helpers clash in_use c e)
           refl
           ∙ both_clashes c _ c
           ∙ ap (λ b. pick (c || b) 18 0) (sym (fact
           ∙ ap (λ t. refuses18 (rules_as_written t sheet_width rules) (roles_of_atoms (facts_as_read t sheet_width facts))) table01)))
 
-      pub all_drawn : (r : Answers) (list : List ℕ)
-          → GivesFromUnion p (rules_in table count) (query_of q) q.terms union facts helpers c room r list
-          → Staged rules question union facts room r list
-      all_drawn r list g =
+      pub all_drawn : (number given : ℕ) (list : List ℕ)
+          → GivesFromUnion p (rules_in (take count table) (length (take count table))) (query_of q) q.terms union facts helpers c room
+          number given list
+          → Staged rules question union facts room number given list
+      all_drawn number given list g =
           let answers : answers_of (facts_as_read p sheet_width facts) (union_as_read p sheet_width union) ≡ the_answers union facts
           = ap (λ t. answers_of (facts_as_read t sheet_width facts) (union_as_read t sheet_width union)) table01 in
-          let terms : q.terms ≡ terms_of question = (asked.query zero').terms_are ∙ sym (question_arity partners01 sheet_width question) in
-          let number = union_checked rules question union facts p table first count read table01 zero second q asked zero' in
+          let terms : q.terms ≡ terms_of question = (asked.query refl).terms_are ∙ sym (question_arity partners01 sheet_width question) in
+          let before = union_checked rules question union facts p table 0 count read table01 refl 0 q asked refl in
           gives_along room (answers_of (facts_as_read p sheet_width facts) (union_as_read p sheet_width union))
-          (the_answers union facts) _ _ r list answers
-          (ap₂ otherwise number (ap (otherwise (facts_number facts))
-          (ap₂ otherwise clashes_there (ap₂ (room_number room) terms answers)))) g
+          (the_answers union facts) _ _ number given list answers
+          (ap₂ otherwise before (ap (otherwise (facts_number facts))
+          (ap₂ otherwise clashes_there (ap₂ (room_number room) terms answers))))
+          (subst (λ rs. GivesFromUnion p rs (query_of q) q.terms union facts helpers c room number given list) (rules_lent table count) g)
 
 pub ruleset laws = (rules, helpers_within, question_small, rules_final, question_final, all_drawn)

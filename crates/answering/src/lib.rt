@@ -2,69 +2,67 @@
 #![tactic(auto)]
 
 ghost use Rattle.std.specs.Prelude.{◌≡◌, length};
+ghost use Rattle.words.specs.Refusals.{number_in, count_in};
 ghost use Rattle.promises.specs.Checking.{Checked};
 ghost use Rattle.promises.specs.Drawing.{Drawn};
 ghost use Rattle.promises.specs.TheSheets.{the_part};
 
-use answer_draw::{Answers, refuse};
+use answer_draw::refuse;
 use answer_stages::draw_members;
 use check_sheet::check_members;
 use read_helpers::asked_clashes;
 use read_question::read_question;
 use read_records::partners::default_partners;
-use read_rules::read_rules;
+use read_rules::{RuleSheet, read_rules};
 use words::limits::MOST_RULES;
+use words::refusals::Refusal;
 
-// Checks a union against rules and question: the number of the first refusal of 1, 2, 17, 3 to 11 and 18 that applies, 0 where the union is
-// accepted.
-pub fn check(rules: &[u8], question: &[u8], union: &[u8]) -> u32
-    ensures { Checked rules.now question.now union.now result }
+// Checks a union against rules and question: the first refusal of 1, 2, 17, 3 to 11 and 18 that applies, if any.
+pub fn check(rules: &[u8], question: &[u8], union: &[u8]) -> Result<(), Refusal>
+    ensures { Checked rules.now question.now union.now (number_in result) }
 {
     let partners = default_partners();
     let mut table = [0u64; MOST_RULES];
-    let inclusions = read_rules(rules, &partners, &mut table);
-    if inclusions.number != 0 {
-        return inclusions.number;
+    let read = read_rules(rules, &partners, &mut table)?;
+    let query = read_question(question, &partners)?;
+    check_members(&table[..read.count], query, union, &partners)?;
+    if asked_clashes(read.clash, query, read.helpers) {
+        return Err(Refusal::HelperAsRole);
     }
-    let asked = read_question(question, &partners);
-    if asked.number != 0 {
-        return asked.number;
-    }
-    let number = check_members(&table, inclusions.count, asked.query, union, &partners);
-    if number != 0 {
-        return number;
-    }
-    if asked_clashes(inclusions.clash, asked.query, inclusions.helpers) {
-        18
-    } else {
-        0
-    }
+    Ok(())
 }
 
-// Draws the answers of an accepted union from facts into the list: the number of the first refusal of 1, 2, 17, 3 to 13, 18 and 14 that
-// applies, or 0, and the count. Where the number is 0 the list holds exactly the tuples of registered objects that the question finds in
-// some round from the facts under the rules as written, ascending, and zeros after them; on a refusal it is all zeros.
-pub fn answer(rules: &[u8], question: &[u8], union: &[u8], facts: &[u8], list: &mut [u8]) -> Answers
+// Draws the answers of an accepted union from facts into the list: the first refusal of 1, 2, 17, 3 to 13, 18 and 14 that applies, or the
+// count. With the count the list holds exactly the tuples of registered objects that the question finds in some round from the facts under
+// the rules as written, ascending, and zeros after them; on a refusal it is all zeros.
+pub fn answer(
+    rules: &[u8],
+    question: &[u8],
+    union: &[u8],
+    facts: &[u8],
+    list: &mut [u8],
+) -> Result<u64, Refusal>
     ensures { Drawn rules.now question.now union.now facts.now
-        (length list.old) result.number result.count list.new }
+        (length list.old) (number_in result) (count_in result) list.new }
 {
     let partners = default_partners();
     let mut table = [0u64; MOST_RULES];
-    let inclusions = read_rules(rules, &partners, &mut table);
-    if inclusions.number != 0 {
-        return refuse(inclusions.number, list);
-    }
-    let asked = read_question(question, &partners);
-    if asked.number != 0 {
-        return refuse(asked.number, list);
-    }
-    let clash = asked_clashes(inclusions.clash, asked.query, inclusions.helpers);
+    let read = match read_rules(rules, &partners, &mut table) {
+        Ok(read) => read,
+        Err(refusal) => return refuse(refusal, list),
+    };
+    let query = match read_question(question, &partners) {
+        Ok(query) => query,
+        Err(refusal) => return refuse(refusal, list),
+    };
+    let asked = RuleSheet {
+        clash: asked_clashes(read.clash, query, read.helpers),
+        ..read
+    };
     draw_members(
-        &table,
-        inclusions.count,
-        inclusions.helpers,
-        clash,
-        asked.query,
+        &table[..read.count],
+        asked,
+        query,
         union,
         facts,
         &partners,

@@ -4,12 +4,21 @@
 use answering::{answer, check};
 use std::io;
 use std::io::Print;
+use words::refusals::Refusal;
 use write_stage::Written;
 use writing::write;
 
 // Prints some bytes.
 fn print(rt: &impl Print, text: &[u8]) -> io::Result<()> {
     rt.write_all(text)
+}
+
+// The number of a refusal, 0 for none.
+fn number<T: Copy>(given: Result<T, Refusal>) -> u32 {
+    match given {
+        Ok(_) => 0,
+        Err(refusal) => u32::from(refusal),
+    }
 }
 
 // Prints the bytes in hexadecimal.
@@ -34,8 +43,8 @@ pub fn drawn(
     print(rt, name)?;
     print!(rt;
         ": number {}, count {}, list ",
-        answers.number,
-        answers.count
+        number(answers),
+        answers.unwrap_or(0)
     )?;
     print_bytes(rt, &list)?;
     println!(rt)
@@ -49,18 +58,16 @@ pub fn checked(
     question: &[u8],
     union: &[u8],
 ) -> io::Result<()> {
-    let number = check(rules, question, union);
+    let checked = check(rules, question, union);
     print(rt, name)?;
-    println!(rt; ": number {}", number)
+    println!(rt; ": number {}", number(checked))
 }
 
 // Prints what a call that writes a union gave beside the sheet.
-fn print_made(rt: &impl Print, made: Written) -> io::Result<()> {
+fn print_made(rt: &impl Print, number: u32, made: Written) -> io::Result<()> {
     print!(rt;
         ": number {}, count {}, length {}",
-        made.number,
-        made.count,
-        made.length
+        number, made.count, made.length
     )
 }
 
@@ -68,7 +75,7 @@ fn print_made(rt: &impl Print, made: Written) -> io::Result<()> {
 fn print_union(rt: &impl Print, rules: &[u8], question: &[u8], union: &[u8]) -> io::Result<()> {
     print(rt, b", union ")?;
     print_bytes(rt, union)?;
-    println!(rt; ", checked {}", check(rules, question, union))
+    println!(rt; ", checked {}", number(check(rules, question, union)))
 }
 
 // Prints the union at the beginning of a sheet; nothing if it were longer than the sheet, which no union that was written is.
@@ -88,8 +95,12 @@ fn print_beginning(
 // Writes the union of rules and question, and prints number, count and length, every byte of the union, and what checking it gives.
 pub fn written(rt: &impl Print, name: &[u8], rules: &[u8], question: &[u8]) -> io::Result<()> {
     let mut sheet = [0xffu8; 256];
-    let made = write(rules, question, &mut sheet);
+    let given = write(rules, question, &mut sheet);
+    let made = given.unwrap_or(Written {
+        count: 0,
+        length: 0,
+    });
     print(rt, name)?;
-    print_made(rt, made)?;
-    print_beginning(rt, rules, question, &sheet, made.length as usize)
+    print_made(rt, number(given), made)?;
+    print_beginning(rt, rules, question, &sheet, made.length)
 }

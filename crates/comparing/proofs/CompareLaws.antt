@@ -1,7 +1,8 @@
 -- What the stages of `rename` give is what its contract names.
-use mathlib.Core.Path.{◌≡◌, sym, ap, ◌∙◌, subst}
+use mathlib.Core.Path.{◌≡◌, refl, sym, ap, ◌∙◌, subst}
 use mathlib.Core.Logic.Iff
 use Prim.Native.Nat.{ℕ}
+use native.Mathlib.Omega.{arith}
 use mathlib.Core.Bool.{Bool}
 use mathlib.Core.Option.{Option, none}
 use mathlib.Core.List.{List}
@@ -22,7 +23,10 @@ use Rattle.promises.specs.Renaming.{question_alone, flagged, refusal_to_rename, 
 use Rattle.promises.proofs.Laws.RenamePromises.{zero_sound}
 use Rattle.read_question.specs.QuestionWords.{QuestionRead}
 use Rattle.read_question.specs.QuestionLaws.{question_passed, question_small, question_distinct}
-use Rattle.comparing.specs.declared.Handed.{Handed}
+use Rattle.std.specs.Prelude.{Err}
+use Rattle.words.specs.declared.refusals.Refusal.{Refusal}
+use Rattle.words.specs.Refusals.{code}
+use Rattle.read_question.specs.QuestionWords.{query_in}
 
 -- ---- the sheets one after the other
 
@@ -48,6 +52,11 @@ module _ (partners sheet : List ℕ) (number : ℕ) (q : QueryWords) (read : Que
       unfolding question_as_read
       read_is = (read.query zero).query_is ∙ ap (λ t. question_as_read t sheet_width sheet) e
 
+-- no refusal has number 0: a question that was read has atoms
+numbered : (partners sheet : List ℕ) (refusal : Refusal) → QuestionRead partners sheet (code refusal) (query_in (Err refusal))
+    → code refusal ≡ 0 → ⊥
+numbered partners sheet refusal read z = let some = (read.query z).some_atoms in omega arith
+
 module _ (first second : List ℕ) where
   abbrev F : Option ℕ
   F = the_refusal only_question (question_alone first)
@@ -55,43 +64,46 @@ module _ (first second : List ℕ) where
   abbrev S : Option ℕ
   S = the_refusal only_question (question_alone second)
 
-  refusal : (number : ℕ) (r : Handed) → number ≡ number_of (refusal_to_rename first second) → (number ≡ 0 → ⊥) → r.number ≡ number
-      → r.found ≡ 0 → r.targets ≡ replicate places no_target → Renamed first second r.number r.found r.targets
-  refusal number r e h n f t = record {
-    number_is = n ∙ e;
-    zero = Iff.trans (λ z. sym (n ∙ e) ∙ z, λ z. n ∙ e ∙ z) (zero_sound first second);
-    handed_back = λ z. absurd (h (sym n ∙ z));
-    refused = λ z. (f, t);
+  refusal : (number : ℕ) → number ≡ number_of (refusal_to_rename first second) → (number ≡ 0 → ⊥)
+      → Renamed first second number 0 (replicate places no_target)
+  refusal number e h = record {
+    number_is = e;
+    zero = Iff.trans (λ z. sym e ∙ z, λ z. e ∙ z) (zero_sound first second);
+    handed_back = λ z. absurd (h z);
+    refused = λ z. (refl, refl);
   }
 
-  module _ (partners : List ℕ) (n : ℕ) (p : QueryWords) (read : QuestionRead partners first n p) (e : partners ≡ partners01) where
-    pub first_turned_back : (n ≡ 0 → ⊥) → (r : Handed) → r.number ≡ n → r.found ≡ 0 → r.targets ≡ replicate places no_target
-        → Renamed first second r.number r.found r.targets
-    first_turned_back h r =
-        let is = number_own partners first n p read e in
-        refusal n r (is ∙ sym (number_stops F S (λ z. h (is ∙ z)))) h
+  module _ (partners : List ℕ) (e : partners ≡ partners01) where
+    pub first_turned_back : (stop : Refusal) → QuestionRead partners first (code stop) (query_in (Err stop))
+        → Renamed first second (code stop) 0 (replicate places no_target)
+    first_turned_back stop read =
+        let is = number_own partners first (code stop) (query_in (Err stop)) read e in
+        let h = numbered partners first stop read in
+        refusal (code stop) (is ∙ sym (number_stops F S (λ z. h (is ∙ z)))) h
 
-    module _ (zero : n ≡ 0) (m : ℕ) (q : QueryWords) (read' : QuestionRead partners second m q) where
+    module _ (p : QueryWords) (read : QuestionRead partners first 0 p) (m : ℕ) (q : QueryWords)
+        (read' : QuestionRead partners second m q) where
       second_is : m ≡ number_of (refusal_to_rename first second)
-      second_is = number_own partners second m q read' e ∙ sym (number_goes_on F S (own_none partners first n p read e zero))
+      second_is = number_own partners second m q read' e ∙ sym (number_goes_on F S (own_none partners first 0 p read e refl))
 
-      pub second_turned_back : (m ≡ 0 → ⊥) → (r : Handed) → r.number ≡ m → r.found ≡ 0 → r.targets ≡ replicate places no_target
-          → Renamed first second r.number r.found r.targets
-      second_turned_back h r = refusal m r second_is h
+    pub second_turned_back : (p : QueryWords) (stop : Refusal) → QuestionRead partners first 0 p
+        → QuestionRead partners second (code stop) (query_in (Err stop)) → Renamed first second (code stop) 0 (replicate places no_target)
+    second_turned_back p stop read read' =
+        refusal (code stop) (second_is p read (code stop) (query_in (Err stop)) read') (numbered partners second stop read')
 
-      pub both_read : m ≡ 0 → (r : Handed) (b : Bool) (t : List ℕ) → HandedBack (query_of p) (query_of q) b t → r.number ≡ 0
-          → r.found ≡ flagged b → r.targets ≡ t → Renamed first second r.number r.found r.targets
-      both_read zero' r b t h k f g = record {
-        number_is = k ∙ sym zero' ∙ second_is;
-        zero = Iff.trans (λ z. sym second_is ∙ zero', λ z. k) (zero_sound first second);
-        handed_back = λ z. (b, f, subst (λ l. HandedBack (the_question first) (the_question second) b l) (sym g) named);
-        refused = λ z. absurd (z k);
-      }
-        where
-          named : HandedBack (the_question first) (the_question second) b t
-          named =
-              subst (λ x. HandedBack x (the_question second) b t) (read_is partners first n p read e zero)
-              (subst (λ x. HandedBack (query_of p) x b t) (read_is partners second m q read' e zero') h)
+    pub both_read : (p q : QueryWords) (b : Bool) (t : List ℕ) → QuestionRead partners first 0 p → QuestionRead partners second 0 q
+        → HandedBack (query_of p) (query_of q) b t → Renamed first second 0 (flagged b) t
+    both_read p q b t read read' h = record {
+      number_is = second_is p read 0 q read';
+      zero = Iff.trans (λ z. sym (second_is p read 0 q read') ∙ z, λ z. refl) (zero_sound first second);
+      handed_back = λ z. (b, refl, named);
+      refused = λ z. absurd (z refl);
+    }
+      where
+        named : HandedBack (the_question first) (the_question second) b t
+        named =
+            subst (λ x. HandedBack x (the_question second) b t) (read_is partners first 0 p read e refl)
+            (subst (λ x. HandedBack (query_of p) x b t) (read_is partners second 0 q read' e refl) h)
 
 pub ruleset laws = (
   rules,

@@ -3,20 +3,18 @@
 
 ghost use Rattle.std.specs.Prelude.{◌≡◌, ◌≤◌, length};
 ghost use Rattle.words.specs.Limits.{most_steps};
+ghost use Rattle.words.specs.Refusals.{number_in, count_in};
 ghost use Rattle.explain_packed.specs.Packed.{most_bytes, PlacesUsed, ExplainedIn};
 
-use explain_steps::Explanation;
 use explaining::explain;
 use words::limits::{MOST_STEPS, PLACE_BYTES};
+use words::refusals::Refusal;
 
 // How many of the lent places are used: more than 511 no explanation needs.
 fn places_used(room: usize) -> usize
     ensures { PlacesUsed room result × (result ≤ most_steps) }
 {
-    if room < MOST_STEPS {
-        return room;
-    }
-    MOST_STEPS
+    room.min(MOST_STEPS)
 }
 
 // The packed form, with as many bytes lent as those places take.
@@ -28,12 +26,11 @@ pub fn explain_packed(
     tuple: &[u8],
     room: usize,
     packed: &mut [u8],
-) -> Explanation
+) -> Result<u64, Refusal>
     requires { length packed.old ≡ most_bytes }
     ensures { ExplainedIn rules.now question.now union.now facts.now
-        tuple.now room result.number result.count packed.new }
+        tuple.now room (number_in result) (count_in result) packed.new }
 {
     let places = places_used(room);
-    let used = PLACE_BYTES * places;
-    explain(rules, question, union, facts, tuple, &mut packed[..used])
+    explain(rules, question, union, facts, tuple, &mut packed[..PLACE_BYTES * places])
 }

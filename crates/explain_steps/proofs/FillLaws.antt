@@ -17,6 +17,10 @@ use Rattle.theory.proofs.Laws.Targets.{stands_or_not}
 use Rattle.theory.specs.Laws.Explaining.{Behind}
 use Rattle.theory.proofs.Laws.Explaining.{way_behind, behind_unique}
 use Rattle.words.specs.Limits.{place_size}
+use Rattle.std.specs.Prelude.{Result, Err}
+use Rattle.words.specs.declared.refusals.Refusal.{Refusal}
+use Rattle.words.specs.declared.refusals.Refusal.TheVariants.{StepsTooShort}
+use Rattle.words.specs.Refusals.{number_in, count_in}
 use Rattle.words.specs.Records.{step_of, step_parent}
 use Rattle.words.specs.Words.{union_in}
 use Rattle.words.specs.Rows.{Rows, member_in}
@@ -26,7 +30,6 @@ use Rattle.sheets.specs.StepList.{place_bytes, step_list}
 use Rattle.explain_place.specs.Places.{step_of_place, bytes_of_place}
 use Rattle.explain_place.specs.declared.Place.{Place}
 use Rattle.explain_steps.specs.Filling.{RoomFor, FilledBack, TellsFrom}
-use Rattle.explain_steps.specs.declared.Explanation.{Explanation}
 use Rattle.explain_steps.proofs.StepsLaws.{parent_there, made_earlier, climb_less}
 
 -- ---- a place in bytes
@@ -262,13 +265,13 @@ module _ (rules : List Rule) (union : UCQ) (k room behind : ℕ) (b : Behind uni
   pub room_for : 40 * behind ≤ room → RoomFor union k room
   room_for l = record { places = behind; behind = b; fits = l }
 
-  pub tells_short : (r : Explanation) (list : List ℕ) → room < 40 * behind → (r.number ≡ 20) × (r.count ≡ 0) × (list ≡ replicate room 0)
-      → TellsFrom rules union k room r.number r.count list
-  tells_short r list h (a, z, e) = record {
-    short = λ n. (a, behind, b, h, z, e);
+  pub tells_short : (r : Result ℕ Refusal) (list : List ℕ) → room < 40 * behind → (r ≡ Err StepsTooShort) × (list ≡ replicate room 0)
+      → TellsFrom rules union k room (number_in r) (count_in r) list
+  tells_short r list h (a, e) = rw a (record {
+    short = λ n. (refl, behind, b, h, refl, e);
     enough = λ n. absurd (omega arith);
     filled = λ n. absurd (omega arith);
-  }
+  })
 
   pub tells_filled : (list : List ℕ) → 40 * behind ≤ room → FilledBack rules union k room list → TellsFrom rules union k room 0 behind list
   tells_filled list h f = record {

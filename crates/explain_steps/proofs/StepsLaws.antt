@@ -13,7 +13,6 @@ use Rattle.theory.specs.Renaming.{Alike}
 use Rattle.theory.specs.Union.{yield}
 use Rattle.theory.specs.Targets.{Smallest, HandedBack}
 use Rattle.theory.specs.Explaining.{PlaceOf}
-use Rattle.theory.specs.Laws.Options.{guard_some}
 use Rattle.theory.proofs.Laws.WrittenStep.{yield_iff}
 use Rattle.theory.specs.Laws.Explaining.{Behind}
 use Rattle.words.specs.Records.{step_of, step_kind, step_parent, step_atom, step_other}
@@ -22,7 +21,7 @@ use Rattle.words.specs.Rows.{member_in}
 use Rattle.words.specs.declared.QueryWords.{QueryWords}
 use Rattle.words.specs.Laws.Rows.{row_within, row_there, step_within, step_there, union_at}
 use Rattle.query_steps.specs.StepResults.{query_found}
-use Rattle.query_steps.specs.declared.steps.QueryFound.{QueryFound}
+use Rattle.std.specs.Prelude.{Option, Some, None, IsSome}
 use Rattle.explain_place.specs.Places.{step_of_place}
 use Rattle.explain_steps.specs.Filling.{StepsMade, ParentsEarlier}
 
@@ -92,18 +91,27 @@ same_step : (s t : Step) → s.kind ≡ t.kind → s.parent ≡ t.parent → s.a
 same_step s t a b c d i = record { kind = a i; parent = b i; atom = c i; other = d i }
 
 module _ (rules : List Rule) (table : List ℕ) (n k : ℕ) (made : StepsMade rules (union_in table n)) (pos : 0 < k) (h : k < n) where
-  pub place_is : (y : QueryFound) (q : QueryWords) (found : Bool) (targets : List ℕ) (kind parent atom other : ℕ)
-      → query_found y ≡ yield rules (union_in table n) k (member_in table k).step → query_of q ≡ (member_in table k).query
-      → HandedBack (query_of y.query) (query_of q) found targets → kind ≡ step_kind (get_or table (16 * k) 0)
+  -- the step applies
+  pub step_applies : (y : Option QueryWords) → query_found y ≡ yield rules (union_in table n) k (member_in table k).step → IsSome y
+  step_applies (Some q) e = refl
+  step_applies None e =
+      let (r, yields, alike) = made.each k (member_in table k) pos (union_at table n k h) in
+      let found = e ∙ (yield_iff rules (union_in table n) k (member_in table k).step r).1 yields in
+      cc
+
+  pub place_is : (y : Option QueryWords) (p q : QueryWords) (found : Bool) (targets : List ℕ) (kind parent atom other : ℕ)
+      → y ≡ Some p → query_found y ≡ yield rules (union_in table n) k (member_in table k).step → query_of q ≡ (member_in table k).query
+      → HandedBack (query_of p) (query_of q) found targets → kind ≡ step_kind (get_or table (16 * k) 0)
       → parent ≡ step_parent (get_or table (16 * k) 0) → atom ≡ step_atom (get_or table (16 * k) 0) → other
       ≡ step_other (get_or table (16 * k) 0)
       → PlaceOf rules (union_in table n) k
       (step_of_place (record { member = k; kind = kind; parent = parent; atom = atom; other = other; targets = targets }))
-  unfolding query_found step_of
-  place_is y q found targets kind parent atom other e f back a b c d =
+  unfolding step_of
+  place_is y p q found targets kind parent atom other some_p e f back a b c d =
       let there = union_at table n k h in
       let (r, yields, alike) = made.each k (member_in table k) pos there in
-      let (g, same) = guard_some y.found (e ∙ (yield_iff rules (union_in table n) k (member_in table k).step r).1 yields) in
+      let same : query_of p ≡ r =
+      (let g = ap query_found (sym some_p) ∙ e ∙ (yield_iff rules (union_in table n) k (member_in table k).step r).1 yields in cc) in
       record {
         reached = member_in table k;
         result = r;
@@ -114,12 +122,12 @@ module _ (rules : List Rule) (table : List ℕ) (n k : ℕ) (made : StepsMade ru
         renamed = smallest r same alike found refl back;
       }
     where
-      smallest : (r : Query) → query_of y.query ≡ r → Alike r (member_in table k).query → (b : Bool) → found ≡ b
-          → HandedBack (query_of y.query) (query_of q) found targets → Smallest r (member_in table k).query targets
+      smallest : (r : Query) → query_of p ≡ r → Alike r (member_in table k).query → (b : Bool) → found ≡ b
+          → HandedBack (query_of p) (query_of q) found targets → Smallest r (member_in table k).query targets
       smallest r same alike true t back =
-          subst (λ p. Smallest r p targets) f (subst (λ p. Smallest p (query_of q) targets) same (back.smallest t))
+          subst (λ o. Smallest r o targets) f (subst (λ o. Smallest o (query_of q) targets) same (back.smallest t))
       smallest r same alike false t back =
-          absurd (back.none_fits t (subst (λ p. Alike p (query_of q)) (sym same) (subst (Alike r) (sym f) alike)))
+          absurd (back.none_fits t (subst (λ o. Alike o (query_of q)) (sym same) (subst (Alike r) (sym f) alike)))
 
 -- what fits the place's fields
 pub member_fits : (k n : ℕ) → k < n → n ≤ 512 → k < 65536
@@ -127,4 +135,4 @@ member_fits k n h l = omega arith
 
 pub ruleset climb_laws = (rules, step_within, climb_begins, climbs, climb_less, climb_below, climbed_few, climbed_all)
 
-pub ruleset place_laws = (rules, row_within, row_there, step_within, place_is, member_fits)
+pub ruleset place_laws = (rules, row_within, row_there, step_within, step_applies, place_is, member_fits)

@@ -4,13 +4,17 @@ use Prim.Native.Nat.{ℕ}
 use native.Mathlib.Decide.{ℕ_discrete}
 use mathlib.Core.Bool.{Bool, ◌||◌}
 use mathlib.Core.List.{List}
-use lib.ListN.{replicate}
+use lib.ListN.{length, take, replicate}
 use borrow.Author.Rules.{rules}
 use Rattle.theory.specs.Lists.{pick}
 use Rattle.theory.specs.Refusals.{first_refusal, otherwise}
 use Rattle.theory.specs.Syntax.{Rule, UCQ, Fact}
 use Rattle.theory.specs.Qualified.{roles_of_rules, roles_of_atoms, refuses18}
+use Rattle.std.specs.Prelude.{Result, Err}
 use Rattle.words.specs.Limits.{sheet_width}
+use Rattle.words.specs.Refusals.{code, number_in, count_in}
+use Rattle.words.specs.declared.refusals.Refusal.{Refusal}
+use Rattle.answer_draw.specs.EntryLaws.{numbered, rules_lent}
 use Rattle.words.specs.Words.{rules_in}
 use Rattle.sheets.specs.Format.{term_count}
 use Rattle.sheets.specs.Partners.{partners01}
@@ -30,9 +34,8 @@ use Rattle.check_sheet.specs.Members.{union_number}
 use Rattle.answer_stages.specs.Stages.{facts_number, clash_number}
 use Rattle.answering.proofs.CheckLaws.{otherwise_stops, otherwise_goes_on, either_number}
 use Rattle.answering.proofs.EntryLaws.{unclashed, clashes, otherwise_assoc, both_clashes}
-use Rattle.explain_steps.specs.declared.Explanation.{Explanation}
 use Rattle.explain_stages.specs.Stages.{question_number, from_facts, TellsFromQuestion}
-use Rattle.explain_stages.specs.StageLaws.{tells_stopped}
+use Rattle.explain_stages.specs.StageLaws.{tells_refused}
 
 module _ (rules question union facts : List ℕ) (room : ℕ) where
   -- what comes before the facts, and the facts with the clashes
@@ -44,17 +47,17 @@ module _ (rules question union facts : List ℕ) (room : ℕ) where
 
   module _ (tuple : List ℕ) where
     -- what a call must give
-    abbrev pub Staged : Explanation → List ℕ → Type 0
-    Staged r list =
-        TellsBehind (the_rules rules) (the_facts facts) (the_union union) (terms_of question) tuple room (otherwise before after) r.number
-        r.count list
+    abbrev pub Staged : ℕ → ℕ → List ℕ → Type 0
+    Staged number count list =
+        TellsBehind (the_rules rules) (the_facts facts) (the_union union) (terms_of question) tuple room (otherwise before after) number
+        count list
 
     -- the pledge
-    pub with_pledge : (r : Explanation) (list : List ℕ) → Staged r list
-        → Explained rules question union facts tuple room r.number r.count list
-    with_pledge r list t =
-        pledge rules question union facts tuple room r.number r.count list
-        (subst (λ n. TellsBehind (the_rules rules) (the_facts facts) (the_union union) (terms_of question) tuple room n r.number r.count
+    pub with_pledge : (number count : ℕ) (list : List ℕ) → Staged number count list
+        → Explained rules question union facts tuple room number count list
+    with_pledge number count list t =
+        pledge rules question union facts tuple room number count list
+        (subst (λ n. TellsBehind (the_rules rules) (the_facts facts) (the_union union) (terms_of question) tuple room n number count
         list) (sym (drawing_number partners01 sheet_width (four_sheets rules question union facts tuple))) t)
 
 -- the same, said of other rules, facts, members, terms and numbers
@@ -118,40 +121,45 @@ module _ (rules question union facts : List ℕ) (room : ℕ) (table : List ℕ)
 
   -- ---- what the call gives
 
-  module _ (tuple : List ℕ) (r : Explanation) (list : List ℕ) where
-    rules_refused : (first ≡ 0 → ⊥) → (r.number ≡ first) × (r.count ≡ 0) × (list ≡ replicate room 0)
-        → Staged rules question union facts room tuple r list
-    rules_refused h g =
-        tells_stopped (the_rules rules) (the_facts facts) (the_union union) (terms_of question) tuple room r list first
-        (before rules question union facts room) _ (rules_stopped h) h g
+  module _ (tuple : List ℕ) (list : List ℕ) where
+    rules_refused : (refusal : Refusal) (r : Result ℕ Refusal) → first ≡ code refusal → (r ≡ Err refusal) × (list ≡ replicate room 0)
+        → Staged rules question union facts room tuple (number_in r) (count_in r) list
+    rules_refused refusal r e g =
+        tells_refused (the_rules rules) (the_facts facts) (the_union union) (terms_of question) tuple room
+        (before rules question union facts room) _ refusal r list
+        (sym e ∙ rules_stopped (λ z. numbered refusal (sym e ∙ z))) g
 
     rules_passed : (zero : first ≡ 0) (helpers : ℕ) (clash : Bool) → HelpersRead partners01 rules first helpers clash
-        → TellsFromQuestion partners01 (rules_in table count) question union facts helpers clash tuple room r list
-        → Staged rules question union facts room tuple r list
-    rules_passed zero helpers clash in_use g =
-        tells_along tuple room r.number r.count list (read.read zero) refl refl (sym (question_arity partners01 sheet_width question))
+        → (number told : ℕ) → TellsFromQuestion partners01 (rules_in table count) question union facts helpers clash tuple room number told list
+        → Staged rules question union facts room tuple number told list
+    rules_passed zero helpers clash in_use number told g =
+        tells_along tuple room number told list (read.read zero) refl refl (sym (question_arity partners01 sheet_width question))
         (ap (λ rs. otherwise (question_number partners01 question)
         (otherwise (union_number partners01 rs (the_question question) (term_count question 0) union)
         (from_facts partners01 facts helpers (clash || clashing helpers (roles_of_atoms (the_question question).atoms))))) (read.read zero)
         ∙ stages_are zero helpers clash in_use)
         g.told
 
--- the same of the partners that were lent, which are 01's
-module _ (rules question union facts : List ℕ) (room : ℕ) (p table : List ℕ) (first count : ℕ) (read : RulesRead p rules table first count)
-    (table01 : p ≡ partners01) (tuple : List ℕ) (r : Explanation) (list : List ℕ) where
-  pub rules_final : (first ≡ 0 → ⊥) → (r.number ≡ first) × (r.count ≡ 0) × (list ≡ replicate room 0)
-      → Staged rules question union facts room tuple r list
-  rules_final =
-      rules_refused rules question union facts room table first count (subst (λ t. RulesRead t rules table first count) table01 read) tuple
-      r list
+-- the same of the partners that were lent, which are 01's, and of the rules that are lent
+module _ (rules question union facts : List ℕ) (room : ℕ) (p table : List ℕ) (table01 : p ≡ partners01) (tuple : List ℕ)
+    (list : List ℕ) where
+  pub rules_final : (refusal : Refusal) (count : ℕ) → RulesRead p rules table (code refusal) count → (r : Result ℕ Refusal)
+      → (r ≡ Err refusal) × (list ≡ replicate room 0)
+      → Staged rules question union facts room tuple (number_in r) (count_in r) list
+  rules_final refusal count read r =
+      rules_refused rules question union facts room table (code refusal) count
+      (subst (λ t. RulesRead t rules table (code refusal) count) table01 read) tuple list refusal r refl
 
-  pub all_told : first ≡ 0 → (helpers : ℕ) (clash : Bool) → HelpersRead p rules first helpers clash
-      → TellsFromQuestion p (rules_in table count) question union facts helpers clash tuple room r list
-      → Staged rules question union facts room tuple r list
-  all_told zero helpers clash in_use g =
-      rules_passed rules question union facts room table first count (subst (λ t. RulesRead t rules table first count) table01 read) tuple r
-      list zero helpers clash
-      (subst (λ t. HelpersRead t rules first helpers clash) table01 in_use)
-      (subst (λ t. TellsFromQuestion t (rules_in table count) question union facts helpers clash tuple room r list) table01 g)
+  pub all_told : (count : ℕ) → RulesRead p rules table 0 count → (helpers : ℕ) (clash : Bool) → HelpersRead p rules 0 helpers clash
+      → (number told : ℕ)
+      → TellsFromQuestion p (rules_in (take count table) (length (take count table))) question union facts helpers clash tuple room number
+      told list
+      → Staged rules question union facts room tuple number told list
+  all_told count read helpers clash in_use number told g =
+      rules_passed rules question union facts room table 0 count (subst (λ t. RulesRead t rules table 0 count) table01 read) tuple
+      list refl helpers clash
+      (subst (λ t. HelpersRead t rules 0 helpers clash) table01 in_use) number told
+      (subst (λ t. TellsFromQuestion t (rules_in table count) question union facts helpers clash tuple room number told list) table01
+      (subst (λ rs. TellsFromQuestion p rs question union facts helpers clash tuple room number told list) (rules_lent table count) g))
 
 pub ruleset laws = (rules, helpers_within, rules_final, all_told)

@@ -2,17 +2,19 @@
 #![tactic(auto)]
 
 ghost use Rattle.std.specs.Prelude.{length};
+ghost use Rattle.words.specs.Refusals.{number_in, count_in};
 ghost use Rattle.promises.specs.Explaining.{Explained};
 
+use answer_draw::refuse;
 use explain_stages::explain_question;
-use explain_steps::{Explanation, refuse_explaining};
 use read_records::partners::default_partners;
 use read_rules::read_rules;
 use words::limits::MOST_RULES;
+use words::refusals::Refusal;
 
-// Explains a tuple, packed as in the answer list, into a list of steps of 40 bytes each: the number of the first refusal of 1, 2, 17, 3 to
-// 13, 18, 19 and 20 that applies, or 0, and the count of the steps. Where the number is 0 the list holds the steps from the lowest member
-// that yields the tuple back to member 0, each with its renaming, and zeros after them; on a refusal it is all zeros.
+// Explains a tuple, packed as in the answer list, into a list of steps of 40 bytes each: the first refusal of 1, 2, 17, 3 to 13, 18, 19 and
+// 20 that applies, or the count of the steps. With the count the list holds the steps from the lowest member that yields the tuple back to
+// member 0, each with its renaming, and zeros after them; on a refusal it is all zeros.
 pub fn explain(
     rules: &[u8],
     question: &[u8],
@@ -20,21 +22,19 @@ pub fn explain(
     facts: &[u8],
     tuple: &[u8],
     steps: &mut [u8],
-) -> Explanation
+) -> Result<u64, Refusal>
     ensures { Explained rules.now question.now union.now facts.now
-        tuple.now (length steps.old) result.number result.count steps.new }
+        tuple.now (length steps.old) (number_in result) (count_in result) steps.new }
 {
     let partners = default_partners();
     let mut table = [0u64; MOST_RULES];
-    let inclusions = read_rules(rules, &partners, &mut table);
-    if inclusions.number != 0 {
-        return refuse_explaining(inclusions.number, steps);
-    }
+    let read = match read_rules(rules, &partners, &mut table) {
+        Ok(read) => read,
+        Err(refusal) => return refuse(refusal, steps),
+    };
     explain_question(
-        &table,
-        inclusions.count,
-        inclusions.helpers,
-        inclusions.clash,
+        &table[..read.count],
+        read,
         question,
         union,
         facts,

@@ -1,22 +1,26 @@
-// The library for C and Rust: one export for each entry, with its promise. Each sheet is handed over as pointer and length.
+// The library for C and Rust: one export for each entry, with its promise. Each sheet is handed over as pointer and length, and what an
+// entry gives is handed back with the number of its refusal, or 0.
 #![tactic(auto)]
 
-ghost use Rattle.std.specs.Prelude.{length};
+ghost use Rattle.std.specs.Prelude.{◌≡◌, length};
+ghost use Rattle.words.specs.Refusals.{number_in, count_in};
 ghost use Rattle.promises.specs.Checking.{Checked};
 ghost use Rattle.promises.specs.Drawing.{Drawn};
 ghost use Rattle.promises.specs.Explaining.{Explained};
 ghost use Rattle.promises.specs.Renaming.{Renamed};
 ghost use Rattle.promises.specs.Showing.{Shown};
 ghost use Rattle.promises.specs.Writing.{UnionWritten};
+ghost use Rattle.write_stage.specs.Stage.{count_written, size_written};
+ghost use Rattle.comparing.specs.HandedBack.{found_in, targets_in};
 
-use answer_draw::Answers;
 use answering::{answer, check};
-use comparing::{Handed, rename};
-use explain_steps::Explanation;
+use comparing::rename;
 use explaining::explain;
+use query_renaming::search::Renaming;
 use read_records::partners::default_partners;
 use read_shown::member_place;
-use write_stage::Written;
+use words::refusals::Refusal;
+use write_stage::Written as Union;
 use writing::write;
 
 // `check`.
@@ -24,7 +28,31 @@ use writing::write;
 pub extern "C" fn takwishan_check(rules: &[u8], question: &[u8], union: &[u8]) -> u32
     ensures { Checked rules.now question.now union.now result }
 {
-    check(rules, question, union)
+    match check(rules, question, union) {
+        Ok(()) => 0,
+        Err(refusal) => u32::from(refusal),
+    }
+}
+
+// What a call that draws answers or explains one gives beside the list: how many answers or steps the list has.
+#[repr(C)]
+#[derive(Clone, Copy)]
+pub struct Counted {
+    pub number: u32,
+    pub count: u64,
+}
+
+// What was counted, for C.
+fn counted(given: Result<u64, Refusal>) -> Counted
+    ensures { (result.number ≡ number_in given) × (result.count ≡ count_in given) }
+{
+    match given {
+        Ok(count) => Counted { number: 0, count },
+        Err(refusal) => Counted {
+            number: u32::from(refusal),
+            count: 0,
+        },
+    }
 }
 
 // `answer`.
@@ -35,11 +63,38 @@ pub extern "C" fn takwishan_answer(
     union: &[u8],
     facts: &[u8],
     list: &mut [u8],
-) -> Answers
+) -> Counted
     ensures { Drawn rules.now question.now union.now facts.now
         (length list.old) result.number result.count list.new }
 {
-    answer(rules, question, union, facts, list)
+    counted(answer(rules, question, union, facts, list))
+}
+
+// What a call that writes a union gives beside the sheet: how many members there are, and how many bytes.
+#[repr(C)]
+#[derive(Clone, Copy)]
+pub struct Written {
+    pub number: u32,
+    pub count: u64,
+    pub length: u64,
+}
+
+// What was written, for C.
+fn written(given: Result<Union, Refusal>) -> Written
+    ensures { (result.number ≡ number_in given) × (result.count ≡ count_written given) × (result.length ≡ size_written given) }
+{
+    match given {
+        Ok(union) => Written {
+            number: 0,
+            count: union.count as u64,
+            length: union.length as u64,
+        },
+        Err(refusal) => Written {
+            number: u32::from(refusal),
+            count: 0,
+            length: 0,
+        },
+    }
 }
 
 // `write`.
@@ -48,7 +103,37 @@ pub extern "C" fn takwishan_write(rules: &[u8], question: &[u8], sheet: &mut [u8
     ensures { UnionWritten rules.now question.now (length sheet.old)
         result.number result.count result.length sheet.new }
 {
-    write(rules, question, sheet)
+    written(write(rules, question, sheet))
+}
+
+// What a call that compares questions hands back: 1 where there is a renaming, and where each variable of the first question goes.
+#[repr(C)]
+#[derive(Clone, Copy)]
+pub struct Handed {
+    pub number: u32,
+    pub found: u32,
+    pub targets: [u8; 32],
+}
+
+// A renaming, for C: none for a refusal.
+fn handed(given: Result<Renaming, Refusal>) -> Handed
+    ensures { (result.number ≡ number_in given) × (result.found ≡ found_in given) × (result.targets ≡ targets_in given) }
+{
+    match given {
+        Ok(renaming) => {
+            let targets = renaming.targets;
+            Handed {
+                number: 0,
+                found: u32::from(renaming.found),
+                targets,
+            }
+        }
+        Err(refusal) => Handed {
+            number: u32::from(refusal),
+            found: 0,
+            targets: [32; 32],
+        },
+    }
 }
 
 // `rename`.
@@ -56,7 +141,7 @@ pub extern "C" fn takwishan_write(rules: &[u8], question: &[u8], sheet: &mut [u8
 pub extern "C" fn takwishan_rename(first: &[u8], second: &[u8]) -> Handed
     ensures { Renamed first.now second.now result.number result.found result.targets }
 {
-    rename(first, second)
+    handed(rename(first, second))
 }
 
 // `explain`.
@@ -68,11 +153,11 @@ pub extern "C" fn takwishan_explain(
     facts: &[u8],
     tuple: &[u8],
     steps: &mut [u8],
-) -> Explanation
+) -> Counted
     ensures { Explained rules.now question.now union.now facts.now
         tuple.now (length steps.old) result.number result.count steps.new }
 {
-    explain(rules, question, union, facts, tuple, steps)
+    counted(explain(rules, question, union, facts, tuple, steps))
 }
 
 // Where a part of a sheet begins, and how many bytes it has.

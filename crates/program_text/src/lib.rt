@@ -37,14 +37,8 @@ fn put_answers(
         ≡ text_for rules.now question.now union.now facts.now }
     ensures within { IsPrefixLen result text.new }
 {
-    let answers = answer(rules, question, union, facts, list);
-    put_report(
-        answers.number,
-        answers.count,
-        term_count(question),
-        list,
-        text,
-    )
+    let drawn = answer(rules, question, union, facts, list);
+    put_report(drawn, term_count(question), list, text)
 }
 
 // Puts the text for the four files that were read at the start of `text`, and returns its length. Each buffer has room for one byte

@@ -7,6 +7,9 @@ use lib.ListN.{length, take}
 use lib.Seq.{length-take-le}
 use borrow.Author.Rules.{rules}
 use borrow.Author.Tests.{eq-eqb, ne_eqb}
+use Rattle.words.specs.Refusals.{code}
+use Rattle.words.specs.declared.refusals.Refusal.{Refusal}
+use Rattle.answer_draw.specs.EntryLaws.{numbered}
 use Rattle.promises.specs.Report.{refused_text, first_line, report}
 use Rattle.promises.specs.Output.{sheet_room, error_line, output_for, error_for}
 use Rattle.promises.specs.Writing.{UnionWritten, write_outcome}
@@ -21,12 +24,12 @@ pub no_line : (text : List ℕ) (number : ℕ) → number ≡ 0 → take 0 text 
 unfolding error_line
 no_line text number e = sym (ap (λ (b : Bool). cond b [] (first_line refused_text number)) (eq-eqb number 0 e))
 
-pub line_put : (text : List ℕ) (number count terms r : ℕ) (list : List ℕ) → (number ≡ 0 → ⊥)
-    → take r text ≡ report number count terms list → take r text ≡ error_line number
+pub line_put : (text : List ℕ) (refusal : Refusal) (terms r : ℕ) (list : List ℕ)
+    → take r text ≡ report (code refusal) 0 terms list → take r text ≡ error_line (code refusal)
 unfolding error_line
-line_put text number count terms r list h e =
-    e ∙ refused_report number count terms list h
-    ∙ sym (ap (λ (b : Bool). cond b [] (first_line refused_text number)) (ne_eqb number 0 h))
+line_put text refusal terms r list e =
+    e ∙ refused_report (code refusal) 0 terms list (numbered refusal)
+    ∙ sym (ap (λ (b : Bool). cond b [] (first_line refused_text (code refusal))) (ne_eqb (code refusal) 0 (numbered refusal)))
 
 -- ---- the union
 

@@ -2,12 +2,14 @@
 #![tactic(auto)]
 
 ghost use Rattle.std.specs.Prelude.{◌≡◌, ◌≤◌, length, take};
+ghost use Rattle.words.specs.Refusals.{code};
 ghost use Rattle.promises.specs.Output.{sheet_room, error_room, error_line, output_for, error_for};
 ghost use Rattle.program_files.specs.Files.{TwoFilled, OutputOf};
 ghost use Rattle.promises.specs.Counts.{IsPrefixLen};
 
 use program_files::TwoLengths;
 use report::put_report;
+use words::refusals::Refusal;
 use writing::write;
 
 // How many bytes go to standard output, and how many to standard error.
@@ -17,20 +19,16 @@ pub struct OutputLengths {
     pub error: usize,
 }
 
-// The line for a refusal at the start of `text`, and its length; none where the number is 0.
-fn put_refusal(number: u32, text: &mut [u8]) -> usize
+// The line for a refusal at the start of `text`, and its length.
+fn put_refusal(refusal: Refusal, text: &mut [u8]) -> usize
     requires { error_room ≤ length text.old }
-    ensures text { take result text.new ≡ error_line number }
+    ensures text { take result text.new ≡ error_line (code refusal) }
     ensures within { IsPrefixLen result text.new }
 {
-    if number == 0 {
-        return 0;
-    }
-    let no_list = [0u8; 1];
-    put_report(number, 0, 0, &no_list, text)
+    put_report(Err(refusal), 0, &[], text)
 }
 
-// Writes the union into the sheet and the line for a refusal into `text`; how much of each goes out.
+// Writes the union into the sheet, or the line for a refusal into `text`; how much of each goes out.
 fn put_written(rules: &[u8], question: &[u8], sheet: &mut [u8], text: &mut [u8]) -> OutputLengths
     requires { (length sheet.old ≡ sheet_room) × (error_room ≤ length text.old) }
     ensures output { (take result.output sheet.new ≡ output_for rules.now question.now)
@@ -38,11 +36,15 @@ fn put_written(rules: &[u8], question: &[u8], sheet: &mut [u8], text: &mut [u8])
     ensures error { (take result.error text.new ≡ error_for rules.now question.now)
         × IsPrefixLen result.error text.new }
 {
-    let written = write(rules, question, sheet);
-    let error = put_refusal(written.number, text);
-    OutputLengths {
-        output: written.length as usize,
-        error,
+    match write(rules, question, sheet) {
+        Ok(written) => OutputLengths {
+            output: written.length,
+            error: 0,
+        },
+        Err(refusal) => OutputLengths {
+            output: 0,
+            error: put_refusal(refusal, text),
+        },
     }
 }
 
@@ -61,5 +63,10 @@ pub fn put_output(
         (take result.output sheet.new) (take result.error text.new) }
     ensures within { IsPrefixLen result.output sheet.new × IsPrefixLen result.error text.new }
 {
-    put_written(&rules[..read.rules], &question[..read.question], sheet, text)
+    put_written(
+        &rules[..read.rules],
+        &question[..read.question],
+        sheet,
+        text,
+    )
 }

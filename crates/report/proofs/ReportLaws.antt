@@ -3,6 +3,7 @@ use mathlib.Core.Path.{◌≡◌, refl, sym, ap, ap₂, ◌∙◌, subst}
 use Prim.Native.Nat.{ℕ, zero, suc, ◌+◌, ◌*◌, ◌-◌, ◌^◌, ◌≤◌, ◌<◌}
 use native.Mathlib.Numerals.{add-one}
 use native.Mathlib.Nat.{mul-suc, mul_assoc}
+use native.Mathlib.Decide.{ℕ_discrete}
 use native.Mathlib.Omega.{arith}
 use mathlib.Core.Bool.{Bool, cond}
 use mathlib.Core.List.{List, [], ◌∷◌, ◌++◌, append_assoc, append-nil}
@@ -11,10 +12,14 @@ use lib.ListN.{length, take, drop, get_or, set, length-append, length-set, lengt
 use lib.Seq.{take-suc-set, length-take-le, take_at}
 use borrow.Rule.Slice.PartMut.{post_of, put_mid}
 use borrow.Author.Rules.{rules}
-use borrow.Author.Tests.{ne_eqb}
+use borrow.Author.Tests.{eq-eqb, ne_eqb}
 use mir.Syntax.{w64}
 use mir.Val.{Fits}
+use Rattle.std.specs.Prelude.{Result, Ok, Err}
 use Rattle.words.specs.Limits.{object_bound}
+use Rattle.words.specs.Refusals.{code, number_in, count_in}
+use Rattle.words.specs.declared.refusals.Refusal.{Refusal}
+use Rattle.answer_draw.specs.EntryLaws.{numbered}
 use Rattle.promises.specs.Report.{newline, space, refused_text, accepted_text, decimal_of, separator, object_at, objects_at, line, lines_at}
 use Rattle.promises.specs.Report.{first_line, report}
 use Rattle.promises.proofs.Laws.Printing.{refused_report, listed_report}
@@ -176,19 +181,36 @@ line_split list from (suc k) h =
     ∙ ap (λ n. (decimal_of (object_at list from) ++ (cond (eqb (suc k) 1) newline space ∷ [])) ++ line (objects_at list (from + 2) n))
     (sym e)
 
-pub line_goes_on : (list a b c whole : List ℕ) (from left e to r : ℕ) → 0 < left → Left a e whole b to (line (objects_at list from left))
-    → Put b to (decimal_of (object_at list from) ++ (cond (eqb left 1) newline space ∷ [])) c r
-    → Left a e whole c r (line (objects_at list (from + 2) (left - 1)))
-line_goes_on list a b c whole from left e to r h f g =
-    one_less a b c (decimal_of (object_at list from) ++ (cond (eqb left 1) newline space ∷ [])) whole
-    (line (objects_at list (from + 2) (left - 1))) e to r
-    (subst (λ l. Left a e whole b to l) (line_split list from left h) f) g
+-- it is the last where one is left
+one_left : (k terms : ℕ) → k < terms → eqb (terms - k) 1 ≡ eqb (k + 1) terms
+one_left k terms h = elim (ℕ_discrete (k + 1) terms) [
+  | yes e ↦ eq-eqb (terms - k) 1 (omega arith) ∙ sym (eq-eqb (k + 1) terms e)
+  | no n ↦ ne_eqb (terms - k) 1 (λ e. n (omega arith)) ∙ sym (ne_eqb (k + 1) terms n)
+]
 
-pub line_ends : (list a b whole : List ℕ) (from left e to : ℕ) → left ≤ 0 → Left a e whole b to (line (objects_at list from left))
+pub line_goes_on : (list a b c whole : List ℕ) (at k terms e to r : ℕ) → k < terms
+    → Left a e whole b to (line (objects_at list (at + 2 * k) (terms - k)))
+    → Put b to (decimal_of (object_at list (at + 2 * k)) ++ (cond (eqb (k + 1) terms) newline space ∷ [])) c r
+    → Left a e whole c r (line (objects_at list (at + 2 * (k + 1)) (terms - (k + 1))))
+line_goes_on list a b c whole at k terms e to r h f g =
+    let next : at + 2 * k + 2 ≡ at + 2 * (k + 1) = omega arith in
+    let less : terms - k - 1 ≡ terms - (k + 1) = omega arith in
+    subst (λ n. Left a e whole c r (line (objects_at list n (terms - (k + 1))))) next
+    (subst (λ n. Left a e whole c r (line (objects_at list (at + 2 * k + 2) n))) less
+    (one_less a b c (decimal_of (object_at list (at + 2 * k)) ++ (cond (eqb (k + 1) terms) newline space ∷ [])) whole
+    (line (objects_at list (at + 2 * k + 2) (terms - k - 1))) e to r
+    (subst (λ l. Left a e whole b to l)
+    (line_split list (at + 2 * k) (terms - k) (omega arith)
+    ∙ ap (λ (t : Bool). (decimal_of (object_at list (at + 2 * k)) ++ (cond t newline space ∷ []))
+    ++ line (objects_at list (at + 2 * k + 2) (terms - k - 1))) (one_left k terms h)) f) g))
+
+pub line_ends : (list a b whole : List ℕ) (from terms k e to : ℕ) → terms ≤ k
+    → Left a e whole b to (line (objects_at list from (terms - k)))
     → Put a e whole b to
 unfolding objects_at line
-line_ends list a b whole from zero e to h f = none_left a b whole e to f
-line_ends list a b whole from (suc k) e to h f = absurd (omega arith)
+line_ends list a b whole from terms k e to h f =
+    let none : terms - k ≡ 0 = omega arith in
+    none_left a b whole e to (subst (λ n. Left a e whole b to (line (objects_at list from n))) none f)
 
 -- ---- the lines
 
@@ -204,17 +226,22 @@ lines_split list from terms (suc k) h =
     let e : suc k - 1 ≡ k = omega arith in
     ap (λ n. line (objects_at list from terms) ++ lines_at list (from + 2 * terms) terms n) (sym e)
 
-pub lines_go_on : (list a b c whole : List ℕ) (from terms left e to r : ℕ) → 0 < left → Left a e whole b to (lines_at list from terms left)
-    → Put b to (line (objects_at list from terms)) c r → Left a e whole c r (lines_at list (from + 2 * terms) terms (left - 1))
-lines_go_on list a b c whole from terms left e to r h f g =
-    one_less a b c (line (objects_at list from terms)) whole (lines_at list (from + 2 * terms) terms (left - 1)) e to r
-    (subst (λ l. Left a e whole b to l) (lines_split list from terms left h) f) g
+pub lines_go_on : (list a b c whole : List ℕ) (from terms count k e to r : ℕ) → k < count
+    → Left a e whole b to (lines_at list from terms (count - k))
+    → Put b to (line (objects_at list from terms)) c r → Left a e whole c r (lines_at list (from + 2 * terms) terms (count - (k + 1)))
+lines_go_on list a b c whole from terms count k e to r h f g =
+    let less : count - k - 1 ≡ count - (k + 1) = omega arith in
+    subst (λ n. Left a e whole c r (lines_at list (from + 2 * terms) terms n)) less
+    (one_less a b c (line (objects_at list from terms)) whole (lines_at list (from + 2 * terms) terms (count - k - 1)) e to r
+    (subst (λ l. Left a e whole b to l) (lines_split list from terms (count - k) (omega arith)) f) g)
 
-pub lines_end : (list a b whole : List ℕ) (from terms left e to : ℕ) → left ≤ 0 → Left a e whole b to (lines_at list from terms left)
+pub lines_end : (list a b whole : List ℕ) (from terms count k e to : ℕ) → count ≤ k
+    → Left a e whole b to (lines_at list from terms (count - k))
     → Put a e whole b to
 unfolding lines_at
-lines_end list a b whole from terms zero e to h f = none_left a b whole e to f
-lines_end list a b whole from terms (suc k) e to h f = absurd (omega arith)
+lines_end list a b whole from terms count k e to h f =
+    let none : count - k ≡ 0 = omega arith in
+    none_left a b whole e to (subst (λ n. Left a e whole b to (lines_at list from terms n)) none f)
 
 -- one tuple's part of what all that are left take
 one_part : (m left : ℕ) → 0 < left → m * left ≡ m + m * (left - 1)
@@ -224,40 +251,51 @@ one_part m (suc k) h =
     let d : m * suc k ≡ m * k + m = mul-suc m k in
     rw e (omega arith)
 
-pub one_read : (from terms left n : ℕ) → from + 2 * terms * left ≤ n → 0 < left → from + 2 * terms ≤ n
-one_read from terms left n h g = omega (arith, one_part (2 * terms) left g)
+one_more : (m count k : ℕ) → k < count → m * (count - k) ≡ m + m * (count - (k + 1))
+one_more m count k h =
+    let less : count - k - 1 ≡ count - (k + 1) = omega arith in
+    one_part m (count - k) (omega arith) ∙ ap (λ n. m + m * n) less
+
+pub one_read : (from terms count k n : ℕ) → from + 2 * terms * (count - k) ≤ n → k < count → from + 2 * terms ≤ n
+one_read from terms count k n h g = omega (arith, one_more (2 * terms) count k g)
 
 -- and its end can be counted
-pub step_fits : (from terms left : ℕ) (list : List ℕ) → from + 2 * terms * left ≤ length list → 0 < left → length list * 1 < 2 ^ 63
+pub step_fits : (from terms count k : ℕ) (list : List ℕ) → from + 2 * terms * (count - k) ≤ length list → k < count
+    → length list * 1 < 2 ^ 63
     → Fits w64 (2 * terms)
-step_fits from terms left list h g f = let l : from + 2 * terms ≤ length list = one_read from terms left (length list) h g in omega arith
+step_fits from terms count k list h g f = let l : from + 2 * terms ≤ length list = one_read from terms count k (length list) h g in omega arith
 
-pub from_fits : (from terms left : ℕ) (list : List ℕ) → from + 2 * terms * left ≤ length list → 0 < left → length list * 1 < 2 ^ 63
+pub from_fits : (from terms count k : ℕ) (list : List ℕ) → from + 2 * terms * (count - k) ≤ length list → k < count
+    → length list * 1 < 2 ^ 63
     → Fits w64 (from + 2 * terms)
-from_fits from terms left list h g f = let l : from + 2 * terms ≤ length list = one_read from terms left (length list) h g in omega arith
+from_fits from terms count k list h g f = let l : from + 2 * terms ≤ length list = one_read from terms count k (length list) h g in omega arith
 
-pub rest_read : (from terms left n : ℕ) → from + 2 * terms * left ≤ n → 0 < left → from + 2 * terms + 2 * terms * (left - 1) ≤ n
-rest_read from terms left n h g = omega (arith, one_part (2 * terms) left g)
+pub rest_read : (from terms count k n : ℕ) → from + 2 * terms * (count - k) ≤ n → k < count
+    → from + 2 * terms + 2 * terms * (count - (k + 1)) ≤ n
+rest_read from terms count k n h g = omega (arith, one_more (2 * terms) count k g)
 
-pub one_fits : (a b whole rest : List ℕ) (e to terms left : ℕ) → to + 6 * terms * left ≤ length a → 0 < left
+pub one_fits : (a b whole rest : List ℕ) (e to terms count k : ℕ) → to + 6 * terms * (count - k) ≤ length a → k < count
     → Left a e whole b to rest → to + 6 * terms ≤ length b
-one_fits a b whole rest e to terms left h g f = let l = f.long in omega (arith, one_part (6 * terms) left g)
+one_fits a b whole rest e to terms count k h g f = let l = f.long in omega (arith, one_more (6 * terms) count k g)
 
-pub rest_fits : (to r terms left n : ℕ) → to + 6 * terms * left ≤ n → 0 < left → r ≤ to + 6 * terms → r + 6 * terms * (left - 1) ≤ n
-rest_fits to r terms left n h g k = omega (arith, one_part (6 * terms) left g)
+pub rest_fits : (to r terms count k n : ℕ) → to + 6 * terms * (count - k) ≤ n → k < count → r ≤ to + 6 * terms
+    → r + 6 * terms * (count - (k + 1)) ≤ n
+rest_fits to r terms count k n h g d = omega (arith, one_more (6 * terms) count k g)
 
 -- ---- the first line, and the whole text
 
 number_short : (n : ℕ) → n < 18446744073709551616 → length (decimal_of n) ≤ 20
 number_short n h = short_decimal n 19 (omega arith)
 
-pub named_fits : (word out after : List ℕ) (n r : ℕ) → length word ≤ 9 → 30 ≤ length out → n < 18446744073709551616 → Put out 0 word after r
+pub named_fits : (word out after : List ℕ) (n e r : ℕ) → length word ≤ 9 → e + 30 ≤ length out → n < 18446744073709551616
+    → Put out e word after r
     → r + length (decimal_of n) ≤ length after
-named_fits word out after n r h g f p = let l = number_short n f in let a = p.ends in let b = p.long in omega arith
+named_fits word out after n e r h g f p = let l = number_short n f in let a = p.ends in let b = p.long in omega arith
 
-pub numbered_fits : (word out b c : List ℕ) (n r s : ℕ) → length word ≤ 9 → 30 ≤ length out → n < 18446744073709551616 → Put out 0 word b r
+pub numbered_fits : (word out b c : List ℕ) (n e r s : ℕ) → length word ≤ 9 → e + 30 ≤ length out → n < 18446744073709551616
+    → Put out e word b r
     → Put b r (decimal_of n) c s → s < length c
-numbered_fits word out b c n r s h g f p q =
+numbered_fits word out b c n e r s h g f p q =
     let l = number_short n f in
     let x = p.ends in
     let y = p.long in
@@ -265,14 +303,14 @@ numbered_fits word out b c n r s h g f p q =
     let w = q.long in
     omega arith
 
-pub first_put : (word out b c d : List ℕ) (n r s t : ℕ) → Put out 0 word b r → Put b r (decimal_of n) c s → Put c s (newline ∷ []) d t
-    → Put out 0 (first_line word n) d t
-first_put word out b c d n r s t p q u =
-    both_put out b d word (decimal_of n ++ (newline ∷ [])) 0 r t p (both_put b c d (decimal_of n) (newline ∷ []) r s t q u)
+pub first_put : (word out b c d : List ℕ) (n e r s t : ℕ) → Put out e word b r → Put b r (decimal_of n) c s → Put c s (newline ∷ []) d t
+    → Put out e (first_line word n) d t
+first_put word out b c d n e r s t p q u =
+    both_put out b d word (decimal_of n ++ (newline ∷ [])) e r t p (both_put b c d (decimal_of n) (newline ∷ []) r s t q u)
 
-pub first_ends : (word out b c d : List ℕ) (n r s t : ℕ) → length word ≤ 9 → n < 18446744073709551616 → Put out 0 word b r
-    → Put b r (decimal_of n) c s → Put c s (newline ∷ []) d t → t ≤ 30
-first_ends word out b c d n r s t h f p q u =
+pub first_ends : (word out b c d : List ℕ) (n e r s t : ℕ) → length word ≤ 9 → n < 18446744073709551616 → Put out e word b r
+    → Put b r (decimal_of n) c s → Put c s (newline ∷ []) d t → t ≤ e + 30
+first_ends word out b c d n e r s t h f p q u =
     let l = number_short n f in
     let x = p.ends in
     let y = q.ends in
@@ -282,30 +320,18 @@ first_ends word out b c d n r s t h f p q u =
 pub put_counts : (out piece after : List ℕ) (end r : ℕ) → Put out end piece after r → IsPrefixLen r after
 put_counts out piece after end r p = (p.within, sym (length-take-le r after p.within))
 
-pub refused_text_lem : (number count terms r : ℕ) (list out after : List ℕ) → (number ≡ 0 → ⊥)
-    → Put out 0 (first_line refused_text number) after r → take r after ≡ report number count terms list
-refused_text_lem number count terms r list out after not p = p.text ∙ sym (refused_report number count terms list not)
+pub refused_text_lem : (drawn : Result ℕ Refusal) (refusal : Refusal) (code_is number terms r : ℕ) (list out after : List ℕ)
+    → drawn ≡ Err refusal → code_is ≡ code refusal → number ≡ code_is
+    → Put out 0 (first_line refused_text number) after r → take r after ≡ report (number_in drawn) (count_in drawn) terms list
+refused_text_lem drawn refusal code_is number terms r list out after e c d p =
+    rw e (p.text ∙ ap (first_line refused_text) (d ∙ c) ∙ sym (refused_report (code refusal) 0 terms list (numbered refusal)))
 
-pub accepted_text_lem : (number count terms r s : ℕ) (list out b c : List ℕ) → number ≡ 0 → Put out 0 (first_line accepted_text count) b r
-    → Put b r (lines_at list 0 terms count) c s → take s c ≡ report number count terms list
-accepted_text_lem number count terms r s list out b c zeroed p q =
-    (both_put out b c (first_line accepted_text count) (lines_at list 0 terms count) 0 r s p q).text
-    ∙ sym (listed_report number count terms list zeroed)
-
--- what is accepted has its answers in the list
-pub list_fits : (number count terms : ℕ) (list : List ℕ) → number ≡ 0 → (number ≡ 0 → 2 * terms * count ≤ length list)
-    → 2 * terms * count ≤ length list
-list_fits number count terms list zeroed within = within zeroed
-
--- and its lines are at most three times as long as the list
-pub lines_fit : (number count terms r : ℕ) (list out b p : List ℕ) → number ≡ 0 → (number ≡ 0 → 2 * terms * count ≤ length list)
-    → 30 + 3 * length list ≤ length out → Put out 0 p b r → r ≤ 30 → r + 6 * terms * count ≤ length b
-lines_fit number count terms r list out b p zeroed within g f k =
-    let h : 2 * terms * count ≤ length list = within zeroed in
-    let l = f.long in
-    let e : 6 * terms ≡ 3 * (2 * terms) = omega arith in
-    let d : 6 * terms * count ≡ 3 * (2 * terms * count) = ap (λ m. m * count) e ∙ mul_assoc 3 (2 * terms) count in
-    omega arith
+pub accepted_text_lem : (drawn : Result ℕ Refusal) (count terms r s : ℕ) (list out b c : List ℕ) → drawn ≡ Ok count
+    → Put out 0 (first_line accepted_text count) b r
+    → Put b r (lines_at list 0 terms count) c s → take s c ≡ report (number_in drawn) (count_in drawn) terms list
+accepted_text_lem drawn count terms r s list out b c e p q =
+    rw e ((both_put out b c (first_line accepted_text count) (lines_at list 0 terms count) 0 r s p q).text
+    ∙ sym (listed_report 0 count terms list refl))
 
 pub ruleset laws = (
   rules,
@@ -336,6 +362,4 @@ pub ruleset laws = (
   put_counts,
   refused_text_lem,
   accepted_text_lem,
-  list_fits,
-  lines_fit,
 )

@@ -1,47 +1,33 @@
+use Rattle.std.proofs.lemmas.Result.{err_from_is_err_and}
 use Rattle.answering.proofs.CheckLaws.{laws, with_meaning}
 use Rattle.answering.proofs.check.Goals as goal
 
-pub default_partners-partners-requires : goal.default_partners-partners-requires
-default_partners-partners-requires c = search laws
+pub returns-in_err-read : goal.returns-in_err-read
+returns-in_err-read c =
+    let p = err_from_is_err_and c.from_residual.result c.from_residual.ensures.1 in
+    rw (p.1, p.2) (with_meaning _ _ _ _ (search (laws, c.in_err-read.ensures.rules)))
 
-pub slice_bounds-read_rules-end : goal.slice_bounds-read_rules-end
-slice_bounds-read_rules-end c = search laws
+pub returns-in_err-query : goal.returns-in_err-query
+returns-in_err-query c =
+    let p = err_from_is_err_and c.from_residual-in_err-query.result c.from_residual-in_err-query.ensures.1 in
+    rw (p.1, p.2) (with_meaning _ _ _ _ (search (laws, c.in_ok-read.ensures.rules, c.in_err-query.ensures)))
 
-pub slice_bounds-read_rules-end-2 : goal.slice_bounds-read_rules-end-2
-slice_bounds-read_rules-end-2 c = search laws
+pub check_members-requires : goal.check_members-requires
+check_members-requires c = search (laws, c.in_ok-query.ensures)
 
-pub read_rules-inclusions-requires : goal.read_rules-inclusions-requires
-read_rules-inclusions-requires c = search laws
-
-pub returns-then-inclusions-ne0 : goal.returns-then-inclusions-ne0
-returns-then-inclusions-ne0 c = with_meaning _ _ _ _ (search laws)
-
-pub slice_bounds-read_question-end : goal.slice_bounds-read_question-end
-slice_bounds-read_question-end c = search laws
-
-pub read_question-asked-requires : goal.read_question-asked-requires
-read_question-asked-requires c = search laws
-
-pub returns-then-asked-ne0 : goal.returns-then-asked-ne0
-returns-then-asked-ne0 c = with_meaning _ _ _ _ (search laws)
-
-pub slice_bounds-check_members-end : goal.slice_bounds-check_members-end
-slice_bounds-check_members-end c = search laws
-
-pub slice_bounds-check_members-end-2 : goal.slice_bounds-check_members-end-2
-slice_bounds-check_members-end-2 c = search laws
-
-pub check_members-number-requires : goal.check_members-number-requires
-check_members-number-requires c = (search laws, search laws)
-
-pub returns-then-number-ne0 : goal.returns-then-number-ne0
-returns-then-number-ne0 c = with_meaning _ _ _ _ (search laws)
+pub returns-in_err-check_members : goal.returns-in_err-check_members
+returns-in_err-check_members c =
+    let p = err_from_is_err_and c.from_residual-in_err-check_members.result c.from_residual-in_err-check_members.ensures.1 in
+    rw (p.1, p.2) (with_meaning _ _ _ _
+    (search (laws, c.in_ok-read.ensures.rules, c.in_ok-query.ensures, c.in_err-check_members.ensures)))
 
 pub asked_clashes-requires : goal.asked_clashes-requires
-asked_clashes-requires c = (search laws, search laws)
+asked_clashes-requires c = (search (laws, c.in_ok-read.ensures.helpers), search (laws, c.in_ok-query.ensures))
 
 pub returns-then-asked_clashes : goal.returns-then-asked_clashes
-returns-then-asked_clashes c = with_meaning _ _ _ _ (search laws)
+returns-then-asked_clashes c = with_meaning _ _ _ _
+    (search (laws, c.in_ok-read.ensures.rules, c.in_ok-read.ensures.helpers, c.in_ok-query.ensures, c.in_ok-check_members.ensures))
 
-pub returns-else-asked_clashes : goal.returns-else-asked_clashes
-returns-else-asked_clashes c = with_meaning _ _ _ _ (search laws)
+pub returns : goal.returns
+returns c = with_meaning _ _ _ _
+    (search (laws, c.in_ok-read.ensures.rules, c.in_ok-read.ensures.helpers, c.in_ok-query.ensures, c.in_ok-check_members.ensures))

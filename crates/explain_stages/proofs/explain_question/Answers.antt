@@ -1,26 +1,14 @@
 use Rattle.explain_stages.proofs.TellLaws.{question_laws}
 use Rattle.explain_stages.proofs.explain_question.Goals as goal
 
-pub read_question-asked-requires : goal.read_question-asked-requires
-read_question-asked-requires c = search question_laws
+pub returns-in-Err : goal.returns-in-Err
+returns-in-Err c = search (question_laws, c.in-Err.ensures)
 
-pub refuse_explaining-requires : goal.refuse_explaining-requires
-refuse_explaining-requires c = search question_laws
-
-pub shape_of-steps-then-asked-ne0 : goal.shape_of-steps-then-asked-ne0
-shape_of-steps-then-asked-ne0 c = search question_laws
-
-pub returns-then-asked-ne0 : goal.returns-then-asked-ne0
-returns-then-asked-ne0 c = search question_laws
-
-pub asked_clashes-asks-requires : goal.asked_clashes-asks-requires
-asked_clashes-asks-requires c = search question_laws
+pub asked_clashes-requires : goal.asked_clashes-requires
+asked_clashes-requires c = (search question_laws, search (question_laws, c.in-Ok.ensures))
 
 pub explain_members-requires : goal.explain_members-requires
-explain_members-requires c = search question_laws
-
-pub shape_of-steps : goal.shape_of-steps
-shape_of-steps c = search question_laws
+explain_members-requires c = (search question_laws, search (question_laws, c.in-Ok.ensures))
 
 pub returns : goal.returns
-returns c = search question_laws
+returns c = search (question_laws, c.in-Ok.ensures)
