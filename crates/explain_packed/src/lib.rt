@@ -32,5 +32,12 @@ pub fn explain_packed(
         tuple.now room (number_in result) (count_in result) packed.new }
 {
     let places = places_used(room);
-    explain(rules, question, union, facts, tuple, &mut packed[..PLACE_BYTES * places])
+    explain(
+        rules,
+        question,
+        union,
+        facts,
+        tuple,
+        &mut packed[..PLACE_BYTES * places],
+    )
 }

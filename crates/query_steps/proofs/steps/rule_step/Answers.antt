@@ -6,9 +6,11 @@ pub returns-then-q-i-clause-step : goal.returns-then-q-i-clause-step
 returns-then-q-i-clause-step c = search rule_laws
 
 pub change_atom-requires : goal.change_atom-requires
-change_atom-requires c =
-    (search rules, search rules,
-    made_low c.args.q c.args.i c.in_ok-made.made (search rules) (search rules) (search rules) c.in_ok-made.ensures.low)
+change_atom-requires c = (
+  search rules,
+  search rules,
+  made_low c.args.q c.args.i c.in_ok-made.made (search rules) (search rules) (search rules) c.in_ok-made.ensures.low,
+)
 
 pub returns-in_err-made-clause-step : goal.returns-in_err-made-clause-step
 returns-in_err-made-clause-step c = search rule_laws

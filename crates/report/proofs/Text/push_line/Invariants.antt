@@ -11,5 +11,5 @@ invariant-loop-k l = record {
   room : l.self.end + 6 * (l.terms - l.k) ≤ l.initial.self.end + 6 * l.terms;
   left : Left l.initial.self.out.now l.initial.self.end (line (objects_at l.list l.at l.terms)) l.self.out.now l.self.end
       (line (objects_at l.list (l.at + 2 * l.k) (l.terms - l.k)));
-  same : l.self.out.ghost_name ≡ l.initial.self.out.ghost_name
+  same : l.self.out.ghost_name ≡ l.initial.self.out.ghost_name;
 }

@@ -12,5 +12,5 @@ invariant-loop-answer l = record {
   room : l.self.end + 6 * l.terms * (l.count - l.answer) ≤ length l.initial.self.out.now;
   left : Left l.initial.self.out.now l.initial.self.end (lines_at l.list 0 l.terms l.count) l.self.out.now l.self.end
       (lines_at l.list l.from l.terms (l.count - l.answer));
-  same : l.self.out.ghost_name ≡ l.initial.self.out.ghost_name
+  same : l.self.out.ghost_name ≡ l.initial.self.out.ghost_name;
 }
