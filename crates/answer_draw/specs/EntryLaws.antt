@@ -10,7 +10,8 @@ use Rattle.words.specs.Refusals.{code}
 use Rattle.words.specs.Records.{rule_in}
 use Rattle.words.specs.Words.{rules_in}
 use Rattle.words.specs.declared.refusals.Refusal.{Refusal}
-use Rattle.words.specs.declared.refusals.Refusal.TheVariants.{RuleSheetLength, NoSuchRule, QuestionMalformed, AnswerVariableNowhere, AtomTwice}
+use Rattle.words.specs.declared.refusals.Refusal.TheVariants.{RuleSheetLength, NoSuchRule, QuestionMalformed, AnswerVariableNowhere}
+use Rattle.words.specs.declared.refusals.Refusal.TheVariants.{AtomTwice}
 use Rattle.words.specs.declared.refusals.Refusal.TheVariants.{UnionMalformed, FirstMemberNotQuestion, StepDoesNotApply, StepGivesAnother}
 use Rattle.words.specs.declared.refusals.Refusal.TheVariants.{MembersAlike, UnionOpen, FactSheetLength, FactMalformed, ListTooShort}
 use Rattle.words.specs.declared.refusals.Refusal.TheVariants.{TooManyQuestions, SheetTooShort, PairMalformed, HelperAsRole, NoAnswer}

@@ -33,4 +33,5 @@ GivesFromUnion partners rules q terms union facts helpers clash room number coun
     Gives room (answers_of (facts_as_read partners sheet_width facts) (union_as_read partners sheet_width union))
     (otherwise (union_number partners rules q terms union) (otherwise (facts_number facts)
     (otherwise (clash_number clash helpers (facts_as_read partners sheet_width facts))
-    (room_number room terms (answers_of (facts_as_read partners sheet_width facts) (union_as_read partners sheet_width union)))))) number count list
+    (room_number room terms (answers_of (facts_as_read partners sheet_width facts) (union_as_read partners sheet_width union)))))) number
+    count list

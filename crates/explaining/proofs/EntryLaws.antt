@@ -130,7 +130,8 @@ module _ (rules question union facts : List ℕ) (room : ℕ) (table : List ℕ)
         (sym e ∙ rules_stopped (λ z. numbered refusal (sym e ∙ z))) g
 
     rules_passed : (zero : first ≡ 0) (helpers : ℕ) (clash : Bool) → HelpersRead partners01 rules first helpers clash
-        → (number told : ℕ) → TellsFromQuestion partners01 (rules_in table count) question union facts helpers clash tuple room number told list
+        → (number told : ℕ) → TellsFromQuestion partners01 (rules_in table count) question union facts helpers clash tuple room number
+        told list
         → Staged rules question union facts room tuple number told list
     rules_passed zero helpers clash in_use number told g =
         tells_along tuple room number told list (read.read zero) refl refl (sym (question_arity partners01 sheet_width question))

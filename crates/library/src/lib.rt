@@ -10,7 +10,7 @@ ghost use Rattle.promises.specs.Explaining.{Explained};
 ghost use Rattle.promises.specs.Renaming.{Renamed};
 ghost use Rattle.promises.specs.Showing.{Shown};
 ghost use Rattle.promises.specs.Writing.{UnionWritten};
-ghost use Rattle.write_stage.specs.Stage.{count_written, size_written};
+ghost use Rattle.write_stage.specs.Counted.{count_written, size_written};
 ghost use Rattle.comparing.specs.HandedBack.{found_in, targets_in};
 
 use answering::{answer, check};

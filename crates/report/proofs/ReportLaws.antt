@@ -263,12 +263,14 @@ one_read from terms count k n h g = omega (arith, one_more (2 * terms) count k g
 pub step_fits : (from terms count k : ℕ) (list : List ℕ) → from + 2 * terms * (count - k) ≤ length list → k < count
     → length list * 1 < 2 ^ 63
     → Fits w64 (2 * terms)
-step_fits from terms count k list h g f = let l : from + 2 * terms ≤ length list = one_read from terms count k (length list) h g in omega arith
+step_fits from terms count k list h g f = let l : from + 2 * terms ≤ length list = one_read from terms count k
+    (length list) h g in omega arith
 
 pub from_fits : (from terms count k : ℕ) (list : List ℕ) → from + 2 * terms * (count - k) ≤ length list → k < count
     → length list * 1 < 2 ^ 63
     → Fits w64 (from + 2 * terms)
-from_fits from terms count k list h g f = let l : from + 2 * terms ≤ length list = one_read from terms count k (length list) h g in omega arith
+from_fits from terms count k list h g f = let l : from + 2 * terms ≤ length list = one_read from terms count k
+    (length list) h g in omega arith
 
 pub rest_read : (from terms count k n : ℕ) → from + 2 * terms * (count - k) ≤ n → k < count
     → from + 2 * terms + 2 * terms * (count - (k + 1)) ≤ n

@@ -1,5 +1,5 @@
 -- What writing gives once rules and question are read: the union, or 15, and else 16.
-use Rattle.std.specs.Prelude.{◌≡◌, ℕ, List, ltb, length, Result, Ok, Err}
+use Rattle.std.specs.Prelude.{◌≡◌, ℕ, List, ltb, length, Result}
 use Rattle.std.proofs.Math.Option.{Option, or_else}
 use Rattle.theory.specs.Lists.{guard}
 use Rattle.theory.specs.Syntax.{UCQ}
@@ -9,15 +9,7 @@ use Rattle.words.specs.declared.refusals.Refusal.{Refusal}
 use Rattle.sheets.specs.Packing.{pack_union}
 use Rattle.promises.specs.Writing.{WriteOutcome, write_outcome_by}
 use Rattle.write_stage.specs.declared.Written.{Written}
-
--- how many members, and how many bytes, a call wrote
-abbrev pub count_written : Result Written Refusal → ℕ
-count_written (Ok w) = w.count
-count_written (Err refusal) = 0
-
-abbrev pub size_written : Result Written Refusal → ℕ
-size_written (Ok w) = w.length
-size_written (Err refusal) = 0
+use Rattle.write_stage.specs.Counted.{count_written, size_written}
 
 -- the call gives this outcome
 pub record GivesOutcome (outcome : WriteOutcome) (r : Result Written Refusal) (sheet : List ℕ) : Type 0 where

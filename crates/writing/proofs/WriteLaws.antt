@@ -34,7 +34,8 @@ use Rattle.read_rules.specs.RuleLaws.{rules_few, rules_within, helpers_within, c
 use Rattle.read_question.specs.QuestionWords.{QuestionRead}
 use Rattle.read_question.specs.QuestionLaws.{question_small, question_distinct}
 use Rattle.write_stage.specs.declared.Written.{Written}
-use Rattle.write_stage.specs.Stage.{count_written, size_written, GivesOutcome, refusal_of_union, GivesUnion}
+use Rattle.write_stage.specs.Counted.{count_written, size_written}
+use Rattle.write_stage.specs.Stage.{GivesOutcome, refusal_of_union, GivesUnion}
 use Rattle.answer_draw.specs.EntryLaws.{numbered, rules_lent}
 use Rattle.write_stage.specs.StageLaws.{gives_refusal}
 

@@ -4,7 +4,7 @@
 ghost use Rattle.std.specs.Prelude.{length};
 ghost use Rattle.words.specs.Refusals.{number_in};
 ghost use Rattle.promises.specs.Writing.{UnionWritten};
-ghost use Rattle.write_stage.specs.Stage.{count_written, size_written};
+ghost use Rattle.write_stage.specs.Counted.{count_written, size_written};
 
 use read_helpers::asked_clashes;
 use read_question::read_question;
@@ -14,9 +14,9 @@ use words::limits::MOST_RULES;
 use words::refusals::Refusal;
 use write_stage::{Written, refuse_writing, write_read};
 
-// Writes the union for rules and question into the sheet: the first refusal of 1, 2, 17, 3 to 5, 18, 15 and 16 that applies, or the count of
-// members and the length in bytes. With them the union is one that `check` accepts, and the bytes after it are zero; on a refusal all bytes
-// are.
+// Writes the union for rules and question into the sheet: the first refusal of 1, 2, 17, 3 to 5, 18, 15 and 16 that applies, or the count
+// of members and the length in bytes. With them the union is one that `check` accepts, and the bytes after it are zero; on a refusal all
+// bytes are.
 pub fn write(rules: &[u8], question: &[u8], sheet: &mut [u8]) -> Result<Written, Refusal>
     ensures { UnionWritten rules.now question.now (length sheet.old)
         (number_in result) (count_written result) (size_written result) sheet.new }
