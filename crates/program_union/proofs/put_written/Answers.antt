@@ -1,17 +1,14 @@
 use Rattle.program_union.proofs.OutputLaws.{laws}
 use Rattle.program_union.proofs.put_written.Goals as goal
 
-pub write-written-requires : goal.write-written-requires
-write-written-requires c = search laws
+pub returns-in-Ok-clause-output : goal.returns-in-Ok-clause-output
+returns-in-Ok-clause-output c = search (laws, c.in-Ok.ensures)
 
-pub put_refusal-error-requires : goal.put_refusal-error-requires
-put_refusal-error-requires c = search laws
+pub returns-in-Ok-clause-error : goal.returns-in-Ok-clause-error
+returns-in-Ok-clause-error c = search (laws, c.in-Ok.ensures)
 
-pub shape_of-sheet : goal.shape_of-sheet
-shape_of-sheet c = search laws
+pub returns-in-Err-clause-output : goal.returns-in-Err-clause-output
+returns-in-Err-clause-output c = search (laws, c.in-Err.ensures)
 
-pub shape_of-text : goal.shape_of-text
-shape_of-text c = search laws
-
-pub returns : goal.returns
-returns c = search laws
+pub returns-in-Err-clause-error : goal.returns-in-Err-clause-error
+returns-in-Err-clause-error c = search (laws, c.in-Err.ensures)
