@@ -43,15 +43,17 @@ pub struct Counted {
 }
 
 // What was counted, for C.
-fn counted(given: Result<u64, Refusal>) -> Counted
-    ensures { (result.number ≡ number_in given) × (result.count ≡ count_in given) }
-{
-    match given {
-        Ok(count) => Counted { number: 0, count },
-        Err(refusal) => Counted {
-            number: u32::from(refusal),
-            count: 0,
-        },
+impl From<Result<u64, Refusal>> for Counted {
+    ghost from_gives = { λ given c. (c.number ≡ number_in given) × (c.count ≡ count_in given) };
+
+    fn from(given: Result<u64, Refusal>) -> Counted {
+        match given {
+            Ok(count) => Counted { number: 0, count },
+            Err(refusal) => Counted {
+                number: u32::from(refusal),
+                count: 0,
+            },
+        }
     }
 }
 
@@ -67,7 +69,7 @@ pub extern "C" fn takwishan_answer(
     ensures { Drawn rules.now question.now union.now facts.now
         (length list.old) result.number result.count list.new }
 {
-    counted(answer(rules, question, union, facts, list))
+    Counted::from(answer(rules, question, union, facts, list))
 }
 
 // What a call that writes a union gives beside the sheet: how many members there are, and how many bytes.
@@ -80,20 +82,22 @@ pub struct Written {
 }
 
 // What was written, for C.
-fn written(given: Result<Union, Refusal>) -> Written
-    ensures { (result.number ≡ number_in given) × (result.count ≡ count_written given) × (result.length ≡ size_written given) }
-{
-    match given {
-        Ok(union) => Written {
-            number: 0,
-            count: union.count as u64,
-            length: union.length as u64,
-        },
-        Err(refusal) => Written {
-            number: u32::from(refusal),
-            count: 0,
-            length: 0,
-        },
+impl From<Result<Union, Refusal>> for Written {
+    ghost from_gives = { λ given w. (w.number ≡ number_in given) × (w.count ≡ count_written given) × (w.length ≡ size_written given) };
+
+    fn from(given: Result<Union, Refusal>) -> Written {
+        match given {
+            Ok(union) => Written {
+                number: 0,
+                count: union.count as u64,
+                length: union.length as u64,
+            },
+            Err(refusal) => Written {
+                number: u32::from(refusal),
+                count: 0,
+                length: 0,
+            },
+        }
     }
 }
 
@@ -103,7 +107,7 @@ pub extern "C" fn takwishan_write(rules: &[u8], question: &[u8], sheet: &mut [u8
     ensures { UnionWritten rules.now question.now (length sheet.old)
         result.number result.count result.length sheet.new }
 {
-    written(write(rules, question, sheet))
+    Written::from(write(rules, question, sheet))
 }
 
 // What a call that compares questions hands back: 1 where there is a renaming, and where each variable of the first question goes.
@@ -116,23 +120,25 @@ pub struct Handed {
 }
 
 // A renaming, for C: none for a refusal.
-fn handed(given: Result<Renaming, Refusal>) -> Handed
-    ensures { (result.number ≡ number_in given) × (result.found ≡ found_in given) × (result.targets ≡ targets_in given) }
-{
-    match given {
-        Ok(renaming) => {
-            let targets = renaming.targets;
-            Handed {
-                number: 0,
-                found: u32::from(renaming.found),
-                targets,
+impl From<Result<Renaming, Refusal>> for Handed {
+    ghost from_gives = { λ given h. (h.number ≡ number_in given) × (h.found ≡ found_in given) × (h.targets ≡ targets_in given) };
+
+    fn from(given: Result<Renaming, Refusal>) -> Handed {
+        match given {
+            Ok(renaming) => {
+                let targets = renaming.targets;
+                Handed {
+                    number: 0,
+                    found: u32::from(renaming.found),
+                    targets,
+                }
             }
+            Err(refusal) => Handed {
+                number: u32::from(refusal),
+                found: 0,
+                targets: [32; 32],
+            },
         }
-        Err(refusal) => Handed {
-            number: u32::from(refusal),
-            found: 0,
-            targets: [32; 32],
-        },
     }
 }
 
@@ -141,7 +147,7 @@ fn handed(given: Result<Renaming, Refusal>) -> Handed
 pub extern "C" fn takwishan_rename(first: &[u8], second: &[u8]) -> Handed
     ensures { Renamed first.now second.now result.number result.found result.targets }
 {
-    handed(rename(first, second))
+    Handed::from(rename(first, second))
 }
 
 // `explain`.
@@ -157,7 +163,7 @@ pub extern "C" fn takwishan_explain(
     ensures { Explained rules.now question.now union.now facts.now
         tuple.now (length steps.old) result.number result.count steps.new }
 {
-    counted(explain(rules, question, union, facts, tuple, steps))
+    Counted::from(explain(rules, question, union, facts, tuple, steps))
 }
 
 // Where a part of a sheet begins, and how many bytes it has.

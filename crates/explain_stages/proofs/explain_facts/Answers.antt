@@ -8,7 +8,20 @@ pub returns-then-drawn_clashes : goal.returns-then-drawn_clashes
 returns-then-drawn_clashes c = search (fact_laws, c.in-Ok.ensures.facts)
 
 pub explain_tuple-requires : goal.explain_tuple-requires
-explain_tuple-requires c = (search (fact_laws, c.in-Ok.ensures.facts), search (fact_laws, c.in-Ok.ensures.facts), search (fact_laws, c.in-Ok.ensures.facts), search fact_laws, search fact_laws, search fact_laws, search fact_laws, search fact_laws, search fact_laws, search fact_laws)
+explain_tuple-requires c = (
+  search (fact_laws, c.in-Ok.ensures.facts),
+  search (fact_laws, c.in-Ok.ensures.facts),
+  search
+      (fact_laws, c.in-Ok.ensures.facts),
+  search fact_laws,
+  search fact_laws,
+  search fact_laws,
+  search fact_laws,
+  search fact_laws,
+  search
+      fact_laws,
+  search fact_laws,
+)
 
 pub returns : goal.returns
 returns c = search (fact_laws, c.in-Ok.ensures.facts)
