@@ -22,6 +22,19 @@ gives_refused room answers first next refusal r list e g =
       drawn = λ z. absurd (numbered refusal (e ∙ sym d ∙ z));
     })
 
+-- the same, said of numbers
+pub refused_first : (room : ℕ) (answers : List (List ℕ)) (number first next told count : ℕ) (list : List ℕ) → number ≡ first
+    → (number ≡ 0 → ⊥) → (told ≡ number) × (count ≡ 0) × (list ≡ replicate room 0)
+    → Gives room answers (otherwise first next) told count list
+unfolding otherwise
+refused_first room answers number first next told count list e h g =
+    let d : pick (eqb first 0) next first ≡ first = rw (ne_eqb first 0 (λ z. h (e ∙ z))) in
+    record {
+      number_is = g.0 ∙ e ∙ sym d;
+      refused = λ k. (g.1, g.2);
+      drawn = λ z. absurd (h (e ∙ sym d ∙ z));
+    }
+
 -- where none is met, the next stage decides
 pub goes_on : (room : ℕ) (answers : List (List ℕ)) (first next number count : ℕ) (list : List ℕ) → 0 ≡ first
     → Gives room answers next number count list → Gives room answers (otherwise first next) number count list

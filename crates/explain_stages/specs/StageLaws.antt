@@ -29,6 +29,17 @@ module _ (rules : List Rule) (facts : List Fact) (union : UCQ) (terms : ℕ) (tu
         goes_on = λ z. absurd (numbered refusal (e ∙ sym d ∙ z));
       })
 
+  -- the same, said of numbers
+  pub tells_stopped : (number first next told count : ℕ) (list : List ℕ) → number ≡ first → (number ≡ 0 → ⊥)
+      → (told ≡ number) × (count ≡ 0) × (list ≡ replicate room 0) → After (otherwise first next) told count list
+  unfolding otherwise
+  tells_stopped number first next told count list e h g =
+      let d : pick (eqb first 0) next first ≡ first = rw (ne_eqb first 0 (λ z. h (e ∙ z))) in
+      record {
+        stopped = λ n. (g.0 ∙ e ∙ sym d, g.1, g.2);
+        goes_on = λ z. absurd (h (e ∙ sym d ∙ z));
+      }
+
   pub tells_on : (first next number count : ℕ) (list : List ℕ) → 0 ≡ first → After next number count list
       → After (otherwise first next) number count list
   unfolding otherwise
