@@ -1,30 +1,109 @@
 -- Rules by the name of their right side, and rules each once: neither changes what leads outside.
 use mathlib.Core.Path.{◌≡◌, refl, sym, ap, ap₂, ◌∙◌, subst}
-use Prim.Native.Nat.{ℕ, ◌%◌, ◌≤◌, ◌<◌}
+use Prim.Native.Nat.{ℕ, zero, suc, ◌%◌, ◌≤◌, ◌<◌}
 use native.Mathlib.Omega.{arith}
-use mathlib.Core.Bool.{Bool, false, ◌||◌}
+use mathlib.Core.Bool.{Bool, true, false, not, ◌&&◌, and-false, ◌||◌}
 use mathlib.Core.List.{List, [], ◌∷◌, map}
 use lib.ListN.{length, get_or, take}
 use lib.Seq.{take-length}
 use Rattle.std.proofs.Common.{length-take-le}
-use lib.Dec.{T}
+use lib.Dec.{T, eqb, eqb→eq}
 use borrow.Author.Rules.{rules}
 use Rattle.theory.specs.Lists.{any, numbers}
 use Rattle.theory.specs.Syntax.{Query, UCQ}
 use Rattle.theory.specs.Rewriting.{rule_step, steps}
 use Rattle.theory.specs.Union.{refuses11}
 use Rattle.theory.specs.Laws.Lists.{any_iff, numbers_iff}
-use Rattle.theory.specs.Laws.Options.{same_test}
+use Rattle.theory.specs.Laws.Options.{same_test, is_true}
 use Rattle.words.specs.Records.{rule_in, right_name}
 use Rattle.words.specs.Words.{query_of, Small, rules_in, word_name}
 use Rattle.words.specs.declared.QueryWords.{QueryWords}
 use Rattle.words.specs.Laws.Rows.{rows, rules_length, rule_there}
 use Rattle.query_rule.proofs.RuleLaws.{number_differs}
-use Rattle.check_chains.specs.Chains.{places, place_of, Last}
-use Rattle.check_chains.specs.WalkLaws.{OnlyAt, Walked, walk_begins, walks, one_found, none_found, cleared}
+use Rattle.std.specs.Prelude.{Option, Some, None}
+use Rattle.check_chains.specs.Chains.{places, place_of, after, Last}
+use Rattle.check_chains.specs.WalkLaws.{OnlyAt, Walked, walk_begins, walk_on, walk_at, walk_out, walk_within, walk_less}
+use Rattle.check_chains.specs.WalkLaws.{none_found, cleared}
 use Rattle.check_rules.specs.SameWords.{SameWords}
 use Rattle.check_closed.specs.Outside.{outside, leads_outside, rule_out, rules_out, merges_out}
+use Rattle.check_closed.specs.Rules.{stands_earlier, TriedOnce}
 use Rattle.check_closed.proofs.ClosureLaws.{rule_passed, each_step, any_agree}
+
+-- ---- a rule that stands twice
+
+module _ (rules : List ℕ) (count : ℕ) (union : UCQ) (q : Query) (i : ℕ) where
+  -- rule k leads outside, and its word stands nowhere earlier
+  abbrev pub first_out : ℕ → Bool
+  first_out k = rule_out union q (rules_in rules count) i k && not (stands_earlier rules k)
+
+  -- equal words are equal steps
+  pub same_step : (j k : ℕ) → count ≤ length rules → j < count → k < count → get_or rules j 0 ≡ get_or rules k 0
+      → rule_step (rules_in rules count) q i j ≡ rule_step (rules_in rules count) q i k
+  unfolding rule_step
+  same_step j k within g h e = simp (rule_there rules count within j g, rule_there rules count within k h, e)
+
+  -- a rule that leads outside is the first with its word, or one before it does
+  earlier_or_first : count ≤ length rules → (k : ℕ) → k < count → rule_out union q (rules_in rules count) i k ≡ true
+      → ((j : ℕ) → j < k → rule_out union q (rules_in rules count) i j ≡ true → T (any first_out (numbers 0 count)))
+      → (b : Bool) → stands_earlier rules k ≡ b → T (any first_out (numbers 0 count))
+  earlier_or_first within k h t before false e =
+      (any_iff first_out (numbers 0 count)).1 (k, (numbers_iff count k).1 h, subst T (sym (ap₂ (λ a b. a && not b) t e)) tt)
+  earlier_or_first within k h t before true e =
+      let (j, m, s) = (any_iff (λ j. eqb (get_or rules j 0) (get_or rules k 0)) (numbers 0 k)).0 (subst T (sym e) tt) in
+      let l = (numbers_iff k j).0 m in
+      before j l
+      (ap (leads_outside union) (same_step j k within (omega arith) h (eqb→eq (get_or rules j 0) (get_or rules k 0) s)) ∙ t)
+
+  -- where a rule leads outside, so does the first with its word
+  first_leads : count ≤ length rules → (fuel k : ℕ) → k < fuel → k < count → rule_out union q (rules_in rules count) i k ≡ true
+      → T (any first_out (numbers 0 count))
+  first_leads within zero k f h t = absurd (omega arith)
+  first_leads within (suc fuel) k f h t =
+      earlier_or_first within k h t (λ j l. first_leads within fuel j (omega arith) (omega arith)) (stands_earlier rules k) refl
+
+  -- where no first one leads outside, none does
+  pub none_leads : count ≤ length rules → false ≡ any first_out (numbers 0 count)
+      → false ≡ any (rule_out union q (rules_in rules count) i) (numbers 0 count)
+  none_leads within e = go (any (rule_out union q (rules_in rules count) i) (numbers 0 count)) refl
+    where
+      go : (b : Bool) → any (rule_out union q (rules_in rules count) i) (numbers 0 count) ≡ b
+          → false ≡ any (rule_out union q (rules_in rules count) i) (numbers 0 count)
+      go false d = sym d
+      go true d =
+          let (k, m, s) = (any_iff (rule_out union q (rules_in rules count) i) (numbers 0 count)).0 (subst T (sym d) tt) in
+          let l = (numbers_iff count k).0 m in
+          absurd (subst T (sym e) (first_leads within (suc k) k (omega arith) l (is_true (rule_out union q (rules_in rules count) i k) s)))
+
+  module _ (at : Option ℕ) (h k : ℕ) (b : Bool) (within : count ≤ length rules) (walked : Walked first_out rules h count (after at))
+      (e : at ≡ Some k) (tried : TriedOnce (rule_out union q (rules_in rules count) i k) (stands_earlier rules k) b) where
+    pub tried_found : b ≡ true → true ≡ any (rule_out union q (rules_in rules count) i) (numbers 0 count)
+    tried_found t =
+        let there = walk_at first_out rules h count at walked k e in
+        let low = there.low in
+        let found =
+        (any_iff (rule_out union q (rules_in rules count) i) (numbers 0 count)).1
+        (k, (numbers_iff count k).1 (omega arith), subst T (sym (tried.sound t)) tt) in
+        sym (is_true (any (rule_out union q (rules_in rules count) i) (numbers 0 count)) found)
+
+    pub tried_on : (next : Option ℕ) → b ≡ false → Last rules k (place_of (get_or rules k 0)) (after next)
+        → Walked first_out rules h count (after next)
+    tried_on next f last =
+        walk_on first_out rules h count k (walk_at first_out rules h count at walked k e) (after next) false (sym (tried.whole f)) refl last
+
+  pub tried_all : (at : Option ℕ) (h : ℕ) → count ≤ length rules → Walked first_out rules h count (after at) → at ≡ None
+      → false ≡ any (rule_out union q (rules_in rules count) i) (numbers 0 count)
+  tried_all at h within walked e =
+      none_leads within (none_found first_out rules h count (walk_out first_out rules h count at walked e))
+
+-- a rule that is tried, and one that is passed over
+pub tried_now : (out earlier b : Bool) → b ≡ out → TriedOnce out earlier b
+tried_now out earlier b e = record { sound = λ t. sym e ∙ t; whole = λ f. ap (λ x. x && not earlier) (sym e ∙ f) }
+
+pub tried_earlier : (out earlier b : Bool) → b ≡ earlier → b ≡ true → TriedOnce out earlier false
+tried_earlier out earlier b e t = record {
+  sound = λ z. absurd (subst T (sym z) tt);
+  whole = λ z. ap (λ x. out && not x) (sym e ∙ t) ∙ and-false out;
+}
 
 -- ---- rules by name
 
@@ -45,10 +124,11 @@ module _ (rules : List ℕ) (count : ℕ) (q : QueryWords) (i : ℕ) (union : UC
           (λ d. elsewhere (sym (low_bits (get_or rules k 0)) ∙ ap (λ x. x % 512) d))) refl)
 
   pub rules_begin : (number at : ℕ) → number ≡ word_name (get_or q.atoms i 0) → Last rules count (place_of number) at
-      → Walked (rule_out union (query_of q) (rules_in rules count) i) rules (place_of (word_name (get_or q.atoms i 0))) count at
+      → Walked (first_out rules count union (query_of q) i) rules (place_of (word_name (get_or q.atoms i 0))) count at
   rules_begin number at e last =
-      walk_begins (rule_out union (query_of q) (rules_in rules count) i) rules
-      (place_of (word_name (get_or q.atoms i 0))) count at rules_only
+      walk_begins (first_out rules count union (query_of q) i) rules
+      (place_of (word_name (get_or q.atoms i 0))) count at
+      (record { each = λ k l elsewhere. ap (λ b. b && not (stands_earlier rules k)) (rules_only.each k l elsewhere) })
       (subst (λ x. Last rules count (place_of x) at) e last)
 
 -- ---- each rule once
@@ -127,4 +207,7 @@ module _ (rules words : List ℕ) (m : ℕ) (same : SameWords rules (length rule
 pub ruleset laws = (rules, rows, eleven_too, cleared, words_few)
 
 -- for the loop along a chain
-pub ruleset chain_laws = (rules, rows, rules_begin, walks, one_found, none_found)
+pub ruleset chain_laws = (rules, rows, rules_begin, tried_found, tried_on, tried_all, walk_at, walk_within, walk_less)
+
+-- for a rule that is tried once
+pub ruleset once_laws = (rules, tried_now, tried_earlier)

@@ -12,7 +12,7 @@ ghost use Rattle.query_steps.specs.StepResults.{query_found};
 ghost use Rattle.check_chains.specs.Chains.{places};
 ghost use Rattle.check_distinct.specs.Union.{union_of};
 ghost use Rattle.check_closed.specs.Outside.{outside, leads_outside, rule_out, rules_out, merges_out};
-ghost use Rattle.check_closed.specs.Rules.{rules_of};
+ghost use Rattle.check_closed.specs.Rules.{rules_of, stands_earlier, TriedOnce};
 
 use check_chains::{Chained, INDEX_WORDS, MANY, PLACES, chain};
 use check_distinct::alike_to_member;
@@ -48,14 +48,24 @@ pub fn repeated(rules: &[u64], k: usize) -> bool
     false
 }
 
-// Whether rule k leads outside from atom i: a rule for another predicate makes nothing of the atom.
+// Whether rule k leads outside from atom i: a rule for another predicate makes nothing of the atom, and a word that stands earlier is left
+// to its first place. Where there is an index the words were made distinct before.
 fn rule_leads_outside(rules: &Chained, q: QueryWords, i: usize, k: usize, members: &Members) -> bool
     requires { (k < length rules.now.words.now) × Small q × (i < q.size) }
-    ensures { result ≡ rule_out (union_of members.now) (query_of q) (rules_of rules.now) i k }
+    ensures { TriedOnce (rule_out (union_of members.now) (query_of q) (rules_of rules.now) i k)
+        (stands_earlier rules.now.words.now k) result }
 {
     let rule = rules.words[k];
     let atoms = q.atoms;
-    names(rule, atoms[i]) && leads_outside(rule_step(q, i, rule), members)
+    if !names(rule, atoms[i]) {
+        return false;
+    }
+    if rules.index.is_none() {
+        if repeated(rules.words, k) {
+            return false;
+        }
+    }
+    leads_outside(rule_step(q, i, rule), members)
 }
 
 // Whether some rule leads outside from atom i: only rules at the place of the atom's name are looked at. The name is the low bits of a

@@ -24,7 +24,7 @@ use Rattle.words.specs.Laws.Rows.{rows, union_at, union_from, rule_there, no_rul
 use Rattle.std.specs.Prelude.{Option as Made, Some, None, is_some as made}
 use Rattle.query_steps.specs.StepResults.{query_found}
 use Rattle.theory.specs.Explaining.{step_from}
-use Rattle.check_steps.specs.Written.{yields_alike}
+use Rattle.check_steps.specs.Written.{yields_alike, YieldsAlike, FailsAt}
 
 -- ---- what a step yields
 
@@ -35,12 +35,18 @@ module _ (o : Option Query) where
   none_made None b e f = sym (not-not b) ∙ ap not (sym e) ∙ ap (λ x. not (is_some x)) f
   none_made (Some q) b e f = sym (not-not b) ∙ ap not (sym e) ∙ ap (λ x. not (is_some x)) f
 
-  pub nothing_alike : (p : Query) → none ≡ o → false ≡ yields_alike o p
-  nothing_alike p e = ap (λ x. yields_alike x p) e
+  pub nothing_made : none ≡ o → FailsAt o 8
+  nothing_made e = record { nothing = sym e; eight = refl }
 
-  pub compared : (q m : QueryWords) (b : Bool) (p : Query) → some (query_of q) ≡ o → b ≡ alike (query_of q) (query_of m) → query_of m ≡ p
-      → b ≡ yields_alike o p
-  compared q m b p e g h = g ∙ ap (alike (query_of q)) h ∙ ap (λ x. yields_alike x p) e
+  pub compared : (r : Made QueryWords) (q m : QueryWords) (b : Bool) (p : Query) → r ≡ Some q → query_found r ≡ o
+      → b ≡ alike (query_of q) (query_of m) → query_of m ≡ p → YieldsAlike o p b
+  unfolding is_some
+  compared r q m b p s e g h =
+      let found : some (query_of q) ≡ o = sym (ap query_found s) ∙ e in
+      record {
+        made = sym (ap is_some found);
+        same_is = g ∙ ap (alike (query_of q)) h ∙ ap (λ x. yields_alike x p) found;
+      }
 
 -- ---- a rule by its number
 
@@ -155,13 +161,19 @@ unfolding is_some yields_unlike
 right_passes none q e = absurd (subst T e tt)
 right_passes (some p) q e = (refl, ap not (sym e))
 
+-- a question that is not alike to the member's
+unlike_where : (o : Option Query) (q : Query) → is_some o ≡ true → yields_alike o q ≡ false → yields_unlike o q ≡ true
+unfolding is_some yields_unlike
+unlike_where none q e f = absurd (subst T (sym e) tt)
+unlike_where (some p) q e f = ap not f
+
 module _ (rules : List Rule) (table : List ℕ) (n k : ℕ) (before : RightBefore rules table n k) where
   pub right_too : (b : Bool) → k < n
-      → b ≡ yields_alike (yield rules (union_in table n) k (member_in table k).step) (member_in table k).query
+      → YieldsAlike (yield rules (union_in table n) k (member_in table k).step) (member_in table k).query b
       → b ≡ true → RightBefore rules table n (k + 1)
   right_too b h e t =
       let passes =
-      right_passes (yield rules (union_in table n) k (member_in table k).step) (member_in table k).query (sym t ∙ e) in
+      right_passes (yield rules (union_in table n) k (member_in table k).step) (member_in table k).query (sym t ∙ e.same_is) in
       record {
         fails = some_later (fails_at rules table n) k n (some_from (fails_at rules table n) 1 n) before.fails false h (sym passes.0) refl;
         unlike =
@@ -172,28 +184,27 @@ module _ (rules : List Rule) (table : List ℕ) (n k : ℕ) (q : Query) (before 
   abbrev nine_here : Bool
   nine_here = refuses9 rules q (union_in table n)
 
-  pub one_wrong : (r : ℕ) (b : Bool) → k < n
-      → b ≡ yields_alike (yield rules (union_in table n) k (member_in table k).step) (member_in table k).query → b ≡ false
+  pub one_fails : (r : ℕ) → k < n → FailsAt (yield rules (union_in table n) k (member_in table k).step) r
+      → r ≡ number_of (first_refusal (eight_then rules q (union_in table n) nine_here))
+  unfolding is_some first_refusal number_of
+  one_fails r h f =
+      let found : true ≡ refuses8 rules q (union_in table n) =
+      is_eight rules table n true q
+      (some_found (fails_at rules table n) k n (some_from (fails_at rules table n) 1 n) before.fails true h
+      (sym (ap (λ o. not (is_some o)) f.nothing)) refl) in
+      f.eight ∙ simp (sym found)
+
+  pub one_unlike : (r : ℕ) (b : Bool) → k < n
+      → YieldsAlike (yield rules (union_in table n) k (member_in table k).step) (member_in table k).query b → b ≡ false
       → ((p : Query) → r ≡ number_of (first_refusal (eight_then rules p (union_in table n) true)))
       → r ≡ number_of (first_refusal (eight_then rules q (union_in table n) nine_here))
-  unfolding is_some yields_unlike first_refusal number_of
-  one_wrong r b h e t f = by_result (yield rules (union_in table n) k (member_in table k).step) refl (sym e ∙ t)
-    where
-      by_result : (o : Option Query) → yield rules (union_in table n) k (member_in table k).step ≡ o
-          → yields_alike o (member_in table k).query ≡ false
-          → r ≡ number_of (first_refusal (eight_then rules q (union_in table n) nine_here))
-      by_result none d g =
-          let found : true ≡ refuses8 rules q (union_in table n) =
-          is_eight rules table n true q
-          (some_found (fails_at rules table n) k n (some_from (fails_at rules table n) 1 n) before.fails true h
-          (sym (ap (λ o. not (is_some o)) d)) refl) in
-          f q ∙ simp (sym found)
-      by_result (some p) d g =
-          let found : true ≡ nine_here =
-          is_nine rules table n true q
-          (some_found (unlike_at rules table n) k n (some_from (unlike_at rules table n) 1 n) before.unlike true h
-          (sym (ap (λ o. yields_unlike o (member_in table k).query) d ∙ ap not g)) refl) in
-          f q ∙ ap (λ c. number_of (first_refusal (eight_then rules q (union_in table n) c))) found
+  one_unlike r b h e t f =
+      let found : true ≡ nine_here =
+      is_nine rules table n true q
+      (some_found (unlike_at rules table n) k n (some_from (unlike_at rules table n) 1 n) before.unlike true h
+      (sym (unlike_where (yield rules (union_in table n) k (member_in table k).step) (member_in table k).query e.made (sym e.same_is ∙ t)))
+      refl) in
+      f q ∙ ap (λ c. number_of (first_refusal (eight_then rules q (union_in table n) c))) found
 
   pub neither : n ≤ k → 0 ≡ number_of (first_refusal (eight_then rules q (union_in table n) nine_here))
   unfolding first_refusal number_of
@@ -209,7 +220,7 @@ pub ruleset laws = (
   number_scans,
   rows,
   none_made,
-  nothing_alike,
+  nothing_made,
   compared,
   rule_steps,
   no_rule,
@@ -223,6 +234,7 @@ pub ruleset laws = (
   it_is_nine,
   none_before,
   right_too,
-  one_wrong,
+  one_fails,
+  one_unlike,
   neither,
 )

@@ -1,7 +1,7 @@
 // Refusals 8 and 9: the step written beside each later member, and what it yields.
 #![tactic(auto)]
 
-ghost use Rattle.std.specs.Prelude.{◌≡◌, true, [], ◌∷◌, ◌<◌, length, IfSome};
+ghost use Rattle.std.specs.Prelude.{◌≡◌, true, [], ◌∷◌, ◌<◌, length, IfSome, IfOk, IfErr};
 ghost use Rattle.theory.specs.Refusals.{first_refusal, number_of};
 ghost use Rattle.theory.specs.Syntax.{Query};
 ghost use Rattle.theory.specs.Rewriting.{rule_step};
@@ -12,7 +12,7 @@ ghost use Rattle.words.specs.Words.{query_of, Small, rules_in, union_in};
 ghost use Rattle.words.specs.Rows.{Rows, member_in};
 ghost use Rattle.query_steps.specs.StepResults.{query_found};
 ghost use Rattle.theory.specs.Explaining.{step_from};
-ghost use Rattle.check_steps.specs.Written.{yields_alike};
+ghost use Rattle.check_steps.specs.Written.{YieldsAlike, FailsAt};
 
 use query_alike::alike;
 use query_steps::steps::{merge_step, rule_step};
@@ -77,20 +77,22 @@ pub fn refuses8(rules: &[u64], table: &[u64], n: usize) -> bool
     false
 }
 
-// Whether the step beside member k yields a question, and that is alike to the member.
-fn is_right(rules: &[u64], table: &[u64], n: usize, k: usize) -> bool
+// Whether what the step beside member k yields is alike to the member; the refusal where it yields nothing.
+fn judged(rules: &[u64], table: &[u64], n: usize, k: usize) -> Result<bool, Refusal>
     requires { Rows table.now n × (k < n) }
-    ensures { result ≡ yields_alike
+    ensures alike { IfOk result (λ same. YieldsAlike
         (yield (rules_in rules.now (length rules.now)) (union_in table.now n) k (member_in table.now k).step)
-        (member_in table.now k).query }
+        (member_in table.now k).query same) }
+    ensures fails { IfErr result (λ refusal. FailsAt
+        (yield (rules_in rules.now (length rules.now)) (union_in table.now n) k (member_in table.now k).step) (code refusal)) }
 {
     match yielded(rules, table, n, k) {
-        Some(q) => alike(q, load(table, k)),
-        None => false,
+        Some(q) => Ok(alike(q, load(table, k))),
+        None => Err(Refusal::StepDoesNotApply),
     }
 }
 
-// The refusal where some step is not right: 8 comes before 9 if any step of the union does not apply.
+// Refusal 9 where some result is not alike to its member: 8 comes before it if any step of the union does not apply.
 fn eight_or_nine(rules: &[u64], table: &[u64], n: usize) -> Refusal
     requires { Rows table.now n }
     ensures { (q : Query) → code result
@@ -104,7 +106,7 @@ fn eight_or_nine(rules: &[u64], table: &[u64], n: usize) -> Refusal
     }
 }
 
-// The first of refusals 8 and 9 that applies, if any: one pass where neither does.
+// The first of refusals 8 and 9 that applies, if any: one pass where neither does, or to the first step that does not apply.
 pub fn check_written(rules: &[u64], table: &[u64], n: usize) -> Result<(), Refusal>
     requires { Rows table.now n }
     ensures { (q : Query) → number_in result
@@ -112,7 +114,7 @@ pub fn check_written(rules: &[u64], table: &[u64], n: usize) -> Result<(), Refus
         ∷ (9, refuses_nine (rules_in rules.now (length rules.now)) q (union_in table.now n)) ∷ [])) }
 {
     for k in 1..n {
-        if !is_right(rules, table, n, k) {
+        if !judged(rules, table, n, k)? {
             return Err(eight_or_nine(rules, table, n));
         }
     }

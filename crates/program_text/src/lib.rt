@@ -8,7 +8,7 @@ ghost use Rattle.promises.specs.Counts.{IsPrefixLen};
 
 use answering::answer;
 use program_files::Lengths;
-use report::put_report;
+use report::put_drawn;
 
 // "Its answer list has 16,384 bytes."
 const LIST: usize = 16384;
@@ -38,7 +38,7 @@ fn put_answers(
     ensures within { IsPrefixLen result text.new }
 {
     let drawn = answer(rules, question, union, facts, list);
-    put_report(drawn, term_count(question), list, text)
+    put_drawn(drawn, term_count(question), list, text)
 }
 
 // Puts the text for the four files that were read at the start of `text`, and returns its length. Each buffer has room for one byte

@@ -8,7 +8,7 @@ ghost use Rattle.program_files.specs.Files.{TwoFilled, OutputOf};
 ghost use Rattle.promises.specs.Counts.{IsPrefixLen};
 
 use program_files::TwoLengths;
-use report::put_report;
+use report::put_drawn;
 use words::refusals::Refusal;
 use writing::write;
 
@@ -25,7 +25,7 @@ fn put_refusal(refusal: Refusal, text: &mut [u8]) -> usize
     ensures text { take result text.new ≡ error_line (code refusal) }
     ensures within { IsPrefixLen result text.new }
 {
-    put_report(Err(refusal), 0, &[], text)
+    put_drawn(Err(refusal), 0, &[], text)
 }
 
 // Writes the union into the sheet, or the line for a refusal into `text`; how much of each goes out.

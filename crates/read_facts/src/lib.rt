@@ -90,7 +90,7 @@ fn fill_facts(s: &[u8], partners: &[u16], table: &mut [u64]) -> bool
     true
 }
 
-// Reads the fact sheet into the table, or gives the number of its first refusal and the count 0.
+// Reads the fact sheet into the table: the number of facts, or the sheet's first refusal.
 pub fn read_facts(s: &[u8], partners: &[u16], table: &mut [u64]) -> Result<usize, Refusal>
     requires { most_facts ≤ length table.old }
     ensures kept { length table.new ≡ length table.old }

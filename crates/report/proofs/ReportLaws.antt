@@ -2,7 +2,7 @@
 use mathlib.Core.Path.{◌≡◌, refl, sym, ap, ap₂, ◌∙◌, subst}
 use Prim.Native.Nat.{ℕ, zero, suc, ◌+◌, ◌*◌, ◌-◌, ◌^◌, ◌≤◌, ◌<◌}
 use native.Mathlib.Numerals.{add-one}
-use native.Mathlib.Nat.{mul-suc, mul_assoc}
+use native.Mathlib.Nat.{mul-suc}
 use native.Mathlib.Decide.{ℕ_discrete}
 use native.Mathlib.Omega.{arith}
 use mathlib.Core.Bool.{Bool, cond}
@@ -15,11 +15,7 @@ use borrow.Author.Rules.{rules}
 use borrow.Author.Tests.{eq-eqb, ne_eqb}
 use mir.Syntax.{w64}
 use mir.Val.{Fits}
-use Rattle.std.specs.Prelude.{Result, Ok, Err}
 use Rattle.words.specs.Limits.{object_bound}
-use Rattle.words.specs.Refusals.{code, number_in, count_in}
-use Rattle.words.specs.declared.refusals.Refusal.{Refusal}
-use Rattle.answer_draw.specs.EntryLaws.{numbered}
 use Rattle.promises.specs.Report.{newline, space, refused_text, accepted_text, decimal_of, separator, object_at, objects_at, line, lines_at}
 use Rattle.promises.specs.Report.{first_line, report}
 use Rattle.promises.proofs.Laws.Printing.{refused_report, listed_report}
@@ -322,18 +318,15 @@ first_ends word out b c d n e r s t h f p q u =
 pub put_counts : (out piece after : List ℕ) (end r : ℕ) → Put out end piece after r → IsPrefixLen r after
 put_counts out piece after end r p = (p.within, sym (length-take-le r after p.within))
 
-pub refused_text_lem : (drawn : Result ℕ Refusal) (refusal : Refusal) (code_is number terms r : ℕ) (list out after : List ℕ)
-    → drawn ≡ Err refusal → code_is ≡ code refusal → number ≡ code_is
-    → Put out 0 (first_line refused_text number) after r → take r after ≡ report (number_in drawn) (count_in drawn) terms list
-refused_text_lem drawn refusal code_is number terms r list out after e c d p =
-    rw e (p.text ∙ ap (first_line refused_text) (d ∙ c) ∙ sym (refused_report (code refusal) 0 terms list (numbered refusal)))
+pub refused_text_lem : (number count terms r : ℕ) (list out after : List ℕ) → (number ≡ 0 → ⊥)
+    → Put out 0 (first_line refused_text number) after r → take r after ≡ report number count terms list
+refused_text_lem number count terms r list out after not p = p.text ∙ sym (refused_report number count terms list not)
 
-pub accepted_text_lem : (drawn : Result ℕ Refusal) (count terms r s : ℕ) (list out b c : List ℕ) → drawn ≡ Ok count
-    → Put out 0 (first_line accepted_text count) b r
-    → Put b r (lines_at list 0 terms count) c s → take s c ≡ report (number_in drawn) (count_in drawn) terms list
-accepted_text_lem drawn count terms r s list out b c e p q =
-    rw e ((both_put out b c (first_line accepted_text count) (lines_at list 0 terms count) 0 r s p q).text
-    ∙ sym (listed_report 0 count terms list refl))
+pub accepted_text_lem : (number count terms r s : ℕ) (list out b c : List ℕ) → number ≡ 0 → Put out 0 (first_line accepted_text count) b r
+    → Put b r (lines_at list 0 terms count) c s → take s c ≡ report number count terms list
+accepted_text_lem number count terms r s list out b c zeroed p q =
+    (both_put out b c (first_line accepted_text count) (lines_at list 0 terms count) 0 r s p q).text
+    ∙ sym (listed_report number count terms list zeroed)
 
 pub ruleset laws = (
   rules,

@@ -109,22 +109,31 @@ impl<'a> Text<'a> {
     }
 }
 
-// Puts the whole text of what drawing gave at the start of out and returns its length: the refusal's number; or the count, and a line for
-// each answer.
-pub fn put_report(drawn: Result<u64, Refusal>, terms: usize, list: &[u8], out: &mut [u8]) -> usize
+// Puts the whole text at the start of out and returns its length: the refusal's number; or the count, and a line for each answer. The
+// number may be any, one without a `Refusal` too.
+pub fn put_report(number: u32, count: u64, terms: usize, list: &[u8], out: &mut [u8]) -> usize
+    requires { (number ≡ 0 → 2 * terms * count ≤ length list.now) × (30 + 3 * length list.now ≤ length out.old) }
+    ensures text { take result out.new ≡ report_of number count terms list.now }
+    ensures within { IsPrefixLen result out.new }
+{
+    let mut text = Text { out, end: 0 };
+    if number != 0 {
+        text.push_first(b"refused ", u64::from(number));
+        return text.end;
+    }
+    text.push_first(b"accepted ", count);
+    text.push_lines(list, terms, count);
+    text.end
+}
+
+// The same of what drawing gave: a count, or a refusal.
+pub fn put_drawn(drawn: Result<u64, Refusal>, terms: usize, list: &[u8], out: &mut [u8]) -> usize
     requires { (number_in drawn ≡ 0 → 2 * terms * count_in drawn ≤ length list.now) × (30 + 3 * length list.now ≤ length out.old) }
     ensures text { take result out.new ≡ report_of (number_in drawn) (count_in drawn) terms list.now }
     ensures within { IsPrefixLen result out.new }
 {
-    let mut text = Text { out, end: 0 };
-    let count = match drawn {
-        Ok(count) => count,
-        Err(refusal) => {
-            text.push_first(b"refused ", u64::from(u32::from(refusal)));
-            return text.end;
-        }
-    };
-    text.push_first(b"accepted ", count);
-    text.push_lines(list, terms, count);
-    text.end
+    match drawn {
+        Ok(count) => put_report(0, count, terms, list, out),
+        Err(refusal) => put_report(u32::from(refusal), 0, terms, list, out),
+    }
 }

@@ -22,8 +22,8 @@ pub struct Written {
     pub length: usize,
 }
 
-// A refusal, with zeros in the whole sheet.
-pub fn refuse_writing(refusal: Refusal, sheet: &mut [u8]) -> Result<Written, Refusal>
+// A refusal, of whatever type, with zeros in the whole sheet.
+pub fn refuse_writing<E>(refusal: E, sheet: &mut [u8]) -> Result<Written, E>
     ensures { (result ≡ Err refusal) × (sheet.new ≡ replicate (length sheet.old) 0) }
 {
     clear(sheet);

@@ -1,6 +1,5 @@
 use Prim.Native.Nat.{◌+◌, ◌*◌, ◌-◌, ◌≤◌}
 use mathlib.Core.Path.{◌≡◌}
-use lib.ListN.{length}
 use Rattle.promises.specs.Report.{line, objects_at}
 use Rattle.report.proofs.ReportLaws.{Left}
 use Rattle.report.proofs.Text.push_line.Given as goal
