@@ -20,7 +20,7 @@ use Rattle.words.specs.Words.{query_of, Small, rules_in, word_name}
 use Rattle.words.specs.declared.QueryWords.{QueryWords}
 use Rattle.words.specs.Laws.Rows.{rows, rules_length, rule_there}
 use Rattle.query_rule.proofs.RuleLaws.{number_differs}
-use Rattle.std.specs.Prelude.{Option, Some, None}
+use Rattle.std.specs.Prelude.{Option, Some, None, IfSome, is_none}
 use Rattle.check_chains.specs.Chains.{places, place_of, after, Last}
 use Rattle.check_chains.specs.WalkLaws.{OnlyAt, Walked, walk_begins, walk_on, walk_at, walk_out, walk_within, walk_less}
 use Rattle.check_chains.specs.WalkLaws.{none_found, cleared}
@@ -95,6 +95,41 @@ module _ (rules : List ℕ) (count : ℕ) (union : UCQ) (q : Query) (i : ℕ) wh
   tried_all at h within walked e =
       none_leads within (none_found first_out rules h count (walk_out first_out rules h count at walked e))
 
+-- for `indexed`: what a tried rule gives; where there is no index nothing is to be shown
+module _ {X : Type 0} (b c : Bool) where
+  pub tried_each : (index : Option X) → b ≡ c → IfSome index (λ numbers. b ≡ c)
+  tried_each None e = tt
+  tried_each (Some x) e = e
+
+  pub no_index : (index : Option X) → is_none index ≡ true → IfSome index (λ numbers. b ≡ c)
+  no_index None e = tt
+  no_index (Some x) e = absurd (subst T (sym e) tt)
+
+-- the rules from number `at` on were looked at or stand elsewhere: none that is the first with its word leads outside, and where there is
+-- an index none does
+pub record Passed {X : Type 0} (index : Option X) (rules : List ℕ) (count : ℕ) (union : UCQ) (q : Query) (i h at : ℕ) : Type 0 where
+  pub firsts : Walked (first_out rules count union q i) rules h count at
+  pub each : IfSome index (λ numbers. Walked (rule_out union q (rules_in rules count) i) rules h count at)
+
+module _ {X : Type 0} (rules : List ℕ) (count : ℕ) (union : UCQ) (q : Query) (i h : ℕ) (at next : Option ℕ) (k : ℕ) (b : Bool)
+    (e : at ≡ Some k) (tried : TriedOnce (rule_out union q (rules_in rules count) i k) (stands_earlier rules k) b) (f : b ≡ false)
+    (last : Last rules k (place_of (get_or rules k 0)) (after next)) where
+  each_on : (index : Option X) → IfSome index (λ numbers. Walked (rule_out union q (rules_in rules count) i) rules h count (after at))
+      → IfSome index (λ numbers. b ≡ rule_out union q (rules_in rules count) i k)
+      → IfSome index (λ numbers. Walked (rule_out union q (rules_in rules count) i) rules h count (after next))
+  each_on None walked g = tt
+  each_on (Some x) walked g =
+      let p = rule_out union q (rules_in rules count) i in
+      walk_on p rules h count k (walk_at p rules h count at walked k e) (after next) b g f last
+
+  -- both after rule k was looked at and does not lead outside
+  pub passed_on : (index : Option X) → count ≤ length rules → Passed index rules count union q i h (after at)
+      → IfSome index (λ numbers. b ≡ rule_out union q (rules_in rules count) i k) → Passed index rules count union q i h (after next)
+  passed_on index within passed g = record {
+    firsts = tried_on rules count union q i at h k b within passed.firsts e tried next f last;
+    each = each_on index passed.each g;
+  }
+
 -- a rule that is tried, and one that is passed over
 pub tried_now : (out earlier b : Bool) → b ≡ out → TriedOnce out earlier b
 tried_now out earlier b e = record { sound = λ t. sym e ∙ t; whole = λ f. ap (λ x. x && not earlier) (sym e ∙ f) }
@@ -124,12 +159,31 @@ module _ (rules : List ℕ) (count : ℕ) (q : QueryWords) (i : ℕ) (union : UC
           (λ d. elsewhere (sym (low_bits (get_or rules k 0)) ∙ ap (λ x. x % 512) d))) refl)
 
   pub rules_begin : (number at : ℕ) → number ≡ word_name (get_or q.atoms i 0) → Last rules count (place_of number) at
-      → Walked (first_out rules count union (query_of q) i) rules (place_of (word_name (get_or q.atoms i 0))) count at
+      → Walked (rule_out union (query_of q) (rules_in rules count) i) rules (place_of (word_name (get_or q.atoms i 0))) count at
   rules_begin number at e last =
+      walk_begins (rule_out union (query_of q) (rules_in rules count) i) rules
+      (place_of (word_name (get_or q.atoms i 0))) count at rules_only
+      (subst (λ x. Last rules count (place_of x) at) e last)
+
+  -- the same of `first_out`: a rule that is the first with its word
+  pub firsts_begin : (number at : ℕ) → number ≡ word_name (get_or q.atoms i 0) → Last rules count (place_of number) at
+      → Walked (first_out rules count union (query_of q) i) rules (place_of (word_name (get_or q.atoms i 0))) count at
+  firsts_begin number at e last =
       walk_begins (first_out rules count union (query_of q) i) rules
       (place_of (word_name (get_or q.atoms i 0))) count at
       (record { each = λ k l elsewhere. ap (λ b. b && not (stands_earlier rules k)) (rules_only.each k l elsewhere) })
       (subst (λ x. Last rules count (place_of x) at) e last)
+
+  -- both at the start of the walk
+  pub passed_begins : {X : Type 0} (index : Option X) (number at : ℕ) → number ≡ word_name (get_or q.atoms i 0)
+      → Last rules count (place_of number) at
+      → Passed index rules count union (query_of q) i (place_of (word_name (get_or q.atoms i 0))) at
+  passed_begins {X} index number at e last = record { firsts = firsts_begin number at e last; each = go index }
+    where
+      go : (o : Option X) → IfSome o (λ numbers.
+          Walked (rule_out union (query_of q) (rules_in rules count) i) rules (place_of (word_name (get_or q.atoms i 0))) count at)
+      go None = tt
+      go (Some x) = rules_begin number at e last
 
 -- ---- each rule once
 
@@ -207,7 +261,20 @@ module _ (rules words : List ℕ) (m : ℕ) (same : SameWords rules (length rule
 pub ruleset laws = (rules, rows, eleven_too, cleared, words_few)
 
 -- for the loop along a chain
-pub ruleset chain_laws = (rules, rows, rules_begin, tried_found, tried_on, tried_all, walk_at, walk_within, walk_less)
+pub ruleset chain_laws = (
+  rules,
+  rows,
+  rules_begin,
+  firsts_begin,
+  passed_begins,
+  passed_on,
+  tried_found,
+  tried_on,
+  tried_all,
+  walk_at,
+  walk_within,
+  walk_less,
+)
 
 -- for a rule that is tried once
-pub ruleset once_laws = (rules, tried_now, tried_earlier)
+pub ruleset once_laws = (rules, tried_now, tried_earlier, tried_each, no_index)

@@ -49,11 +49,13 @@ pub fn repeated(rules: &[u64], k: usize) -> bool
 }
 
 // Whether rule k leads outside from atom i: a rule for another predicate makes nothing of the atom, and a word that stands earlier is left
-// to its first place. Where there is an index the words were made distinct before.
+// to its first place. Where there is an index the words were made distinct before, and each is tried.
 fn rule_leads_outside(rules: &Chained, q: QueryWords, i: usize, k: usize, members: &Members) -> bool
     requires { (k < length rules.now.words.now) × Small q × (i < q.size) }
-    ensures { TriedOnce (rule_out (union_of members.now) (query_of q) (rules_of rules.now) i k)
+    ensures once { TriedOnce (rule_out (union_of members.now) (query_of q) (rules_of rules.now) i k)
         (stands_earlier rules.now.words.now k) result }
+    ensures indexed { IfSome rules.now.index (λ numbers. result
+        ≡ rule_out (union_of members.now) (query_of q) (rules_of rules.now) i k) }
 {
     let rule = rules.words[k];
     let atoms = q.atoms;

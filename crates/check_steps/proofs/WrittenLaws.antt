@@ -35,6 +35,9 @@ module _ (o : Option Query) where
   none_made None b e f = sym (not-not b) ∙ ap not (sym e) ∙ ap (λ x. not (is_some x)) f
   none_made (Some q) b e f = sym (not-not b) ∙ ap not (sym e) ∙ ap (λ x. not (is_some x)) f
 
+  pub nothing_alike : (p : Query) → none ≡ o → false ≡ yields_alike o p
+  nothing_alike p e = ap (λ x. yields_alike x p) e
+
   pub nothing_made : none ≡ o → FailsAt o 8
   nothing_made e = record { nothing = sym e; eight = refl }
 
@@ -169,11 +172,11 @@ unlike_where (some p) q e f = ap not f
 
 module _ (rules : List Rule) (table : List ℕ) (n k : ℕ) (before : RightBefore rules table n k) where
   pub right_too : (b : Bool) → k < n
-      → YieldsAlike (yield rules (union_in table n) k (member_in table k).step) (member_in table k).query b
+      → b ≡ yields_alike (yield rules (union_in table n) k (member_in table k).step) (member_in table k).query
       → b ≡ true → RightBefore rules table n (k + 1)
   right_too b h e t =
       let passes =
-      right_passes (yield rules (union_in table n) k (member_in table k).step) (member_in table k).query (sym t ∙ e.same_is) in
+      right_passes (yield rules (union_in table n) k (member_in table k).step) (member_in table k).query (sym t ∙ e) in
       record {
         fails = some_later (fails_at rules table n) k n (some_from (fails_at rules table n) 1 n) before.fails false h (sym passes.0) refl;
         unlike =
@@ -206,6 +209,23 @@ module _ (rules : List Rule) (table : List ℕ) (n k : ℕ) (q : Query) (before 
       refl) in
       f q ∙ ap (λ c. number_of (first_refusal (eight_then rules q (union_in table n) c))) found
 
+  -- the two in one: the step yields nothing, or a question that is not alike to the member's
+  pub one_wrong : (r : ℕ) (b : Bool) → k < n
+      → b ≡ yields_alike (yield rules (union_in table n) k (member_in table k).step) (member_in table k).query → b ≡ false
+      → ((p : Query) → r ≡ number_of (first_refusal (eight_then rules p (union_in table n) true)))
+      → r ≡ number_of (first_refusal (eight_then rules q (union_in table n) nine_here))
+  unfolding is_some first_refusal number_of
+  one_wrong r b h e t f = by_result (is_some (yield rules (union_in table n) k (member_in table k).step)) refl
+    where
+      by_result : (there : Bool) → is_some (yield rules (union_in table n) k (member_in table k).step) ≡ there
+          → r ≡ number_of (first_refusal (eight_then rules q (union_in table n) nine_here))
+      by_result false d =
+          let found : true ≡ refuses8 rules q (union_in table n) =
+          is_eight rules table n true q
+          (some_found (fails_at rules table n) k n (some_from (fails_at rules table n) 1 n) before.fails true h (sym (ap not d)) refl) in
+          f q ∙ simp (sym found)
+      by_result true d = one_unlike r b h (record { made = d; same_is = e }) t f
+
   pub neither : n ≤ k → 0 ≡ number_of (first_refusal (eight_then rules q (union_in table n) nine_here))
   unfolding first_refusal number_of
   neither h =
@@ -220,6 +240,7 @@ pub ruleset laws = (
   number_scans,
   rows,
   none_made,
+  nothing_alike,
   nothing_made,
   compared,
   rule_steps,
@@ -236,5 +257,6 @@ pub ruleset laws = (
   right_too,
   one_fails,
   one_unlike,
+  one_wrong,
   neither,
 )

@@ -11,7 +11,7 @@ pub returns-then-not-branch : goal.returns-then-not-branch
 returns-then-not-branch c = search (laws, c.in_ok-judged.ensures.alike)
 
 pub loop-k-preserved : goal.loop-k-preserved
-loop-k-preserved c = search (laws, c.in_ok-judged.ensures.alike)
+loop-k-preserved c = search (laws, c.in_ok-judged.ensures.alike.same_is)
 
 pub returns : goal.returns
 returns c = search laws
