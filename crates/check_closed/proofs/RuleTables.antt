@@ -95,11 +95,15 @@ module _ (rules : List ℕ) (count : ℕ) (union : UCQ) (q : Query) (i : ℕ) wh
   tried_all at h within walked e =
       none_leads within (none_found first_out rules h count (walk_out first_out rules h count at walked e))
 
+-- what holds anyhow holds where there is an index
+with_index : {X P : Type 0} (index : Option X) → P → IfSome index (λ numbers. P)
+with_index None p = tt
+with_index (Some x) p = p
+
 -- for `indexed`: what a tried rule gives; where there is no index nothing is to be shown
 module _ {X : Type 0} (b c : Bool) where
   pub tried_each : (index : Option X) → b ≡ c → IfSome index (λ numbers. b ≡ c)
-  tried_each None e = tt
-  tried_each (Some x) e = e
+  tried_each index e = with_index index e
 
   pub no_index : (index : Option X) → is_none index ≡ true → IfSome index (λ numbers. b ≡ c)
   no_index None e = tt
@@ -158,32 +162,30 @@ module _ (rules : List ℕ) (count : ℕ) (q : QueryWords) (i : ℕ) (union : UC
           (number_differs (get_or rules k 0) (get_or q.atoms i 0) (right_name (get_or rules k 0)) (word_name (get_or q.atoms i 0)) refl refl
           (λ d. elsewhere (sym (low_bits (get_or rules k 0)) ∙ ap (λ x. x % 512) d))) refl)
 
+  -- the walk begins, for a test that only rules at the place pass
+  begins : (p : ℕ → Bool) (number at : ℕ) → OnlyAt p rules (place_of (word_name (get_or q.atoms i 0))) count
+      → number ≡ word_name (get_or q.atoms i 0) → Last rules count (place_of number) at
+      → Walked p rules (place_of (word_name (get_or q.atoms i 0))) count at
+  begins p number at only e last =
+      walk_begins p rules (place_of (word_name (get_or q.atoms i 0))) count at only (subst (λ x. Last rules count (place_of x) at) e last)
+
   pub rules_begin : (number at : ℕ) → number ≡ word_name (get_or q.atoms i 0) → Last rules count (place_of number) at
       → Walked (rule_out union (query_of q) (rules_in rules count) i) rules (place_of (word_name (get_or q.atoms i 0))) count at
-  rules_begin number at e last =
-      walk_begins (rule_out union (query_of q) (rules_in rules count) i) rules
-      (place_of (word_name (get_or q.atoms i 0))) count at rules_only
-      (subst (λ x. Last rules count (place_of x) at) e last)
+  rules_begin number at = begins (rule_out union (query_of q) (rules_in rules count) i) number at rules_only
 
   -- the same of `first_out`: a rule that is the first with its word
   pub firsts_begin : (number at : ℕ) → number ≡ word_name (get_or q.atoms i 0) → Last rules count (place_of number) at
       → Walked (first_out rules count union (query_of q) i) rules (place_of (word_name (get_or q.atoms i 0))) count at
-  firsts_begin number at e last =
-      walk_begins (first_out rules count union (query_of q) i) rules
-      (place_of (word_name (get_or q.atoms i 0))) count at
+  firsts_begin number at =
+      begins (first_out rules count union (query_of q) i) number at
       (record { each = λ k l elsewhere. ap (λ b. b && not (stands_earlier rules k)) (rules_only.each k l elsewhere) })
-      (subst (λ x. Last rules count (place_of x) at) e last)
 
   -- both at the start of the walk
   pub passed_begins : {X : Type 0} (index : Option X) (number at : ℕ) → number ≡ word_name (get_or q.atoms i 0)
       → Last rules count (place_of number) at
       → Passed index rules count union (query_of q) i (place_of (word_name (get_or q.atoms i 0))) at
-  passed_begins {X} index number at e last = record { firsts = firsts_begin number at e last; each = go index }
-    where
-      go : (o : Option X) → IfSome o (λ numbers.
-          Walked (rule_out union (query_of q) (rules_in rules count) i) rules (place_of (word_name (get_or q.atoms i 0))) count at)
-      go None = tt
-      go (Some x) = rules_begin number at e last
+  passed_begins index number at e last =
+      record { firsts = firsts_begin number at e last; each = with_index index (rules_begin number at e last) }
 
 -- ---- each rule once
 

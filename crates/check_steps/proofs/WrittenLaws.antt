@@ -187,15 +187,17 @@ module _ (rules : List Rule) (table : List ℕ) (n k : ℕ) (q : Query) (before 
   abbrev nine_here : Bool
   nine_here = refuses9 rules q (union_in table n)
 
+  -- a step that yields nothing is refusal 8
+  eight_met : k < n → is_some (yield rules (union_in table n) k (member_in table k).step) ≡ false
+      → true ≡ refuses8 rules q (union_in table n)
+  eight_met h none_there =
+      is_eight rules table n true q
+      (some_found (fails_at rules table n) k n (some_from (fails_at rules table n) 1 n) before.fails true h (sym (ap not none_there)) refl)
+
   pub one_fails : (r : ℕ) → k < n → FailsAt (yield rules (union_in table n) k (member_in table k).step) r
       → r ≡ number_of (first_refusal (eight_then rules q (union_in table n) nine_here))
   unfolding is_some first_refusal number_of
-  one_fails r h f =
-      let found : true ≡ refuses8 rules q (union_in table n) =
-      is_eight rules table n true q
-      (some_found (fails_at rules table n) k n (some_from (fails_at rules table n) 1 n) before.fails true h
-      (sym (ap (λ o. not (is_some o)) f.nothing)) refl) in
-      f.eight ∙ simp (sym found)
+  one_fails r h f = f.eight ∙ simp (sym (eight_met h (ap is_some f.nothing)))
 
   pub one_unlike : (r : ℕ) (b : Bool) → k < n
       → YieldsAlike (yield rules (union_in table n) k (member_in table k).step) (member_in table k).query b → b ≡ false
@@ -214,16 +216,12 @@ module _ (rules : List Rule) (table : List ℕ) (n k : ℕ) (q : Query) (before 
       → b ≡ yields_alike (yield rules (union_in table n) k (member_in table k).step) (member_in table k).query → b ≡ false
       → ((p : Query) → r ≡ number_of (first_refusal (eight_then rules p (union_in table n) true)))
       → r ≡ number_of (first_refusal (eight_then rules q (union_in table n) nine_here))
-  unfolding is_some first_refusal number_of
+  unfolding first_refusal number_of
   one_wrong r b h e t f = by_result (is_some (yield rules (union_in table n) k (member_in table k).step)) refl
     where
       by_result : (there : Bool) → is_some (yield rules (union_in table n) k (member_in table k).step) ≡ there
           → r ≡ number_of (first_refusal (eight_then rules q (union_in table n) nine_here))
-      by_result false d =
-          let found : true ≡ refuses8 rules q (union_in table n) =
-          is_eight rules table n true q
-          (some_found (fails_at rules table n) k n (some_from (fails_at rules table n) 1 n) before.fails true h (sym (ap not d)) refl) in
-          f q ∙ simp (sym found)
+      by_result false d = f q ∙ simp (sym (eight_met h d))
       by_result true d = one_unlike r b h (record { made = d; same_is = e }) t f
 
   pub neither : n ≤ k → 0 ≡ number_of (first_refusal (eight_then rules q (union_in table n) nine_here))
